@@ -15,6 +15,7 @@ pub mod Products
 pub mod Quotients
 pub mod Reduce
 pub mod Represents
+pub mod SignLaws
 pub mod Signs
 pub mod SumSigns
 pub mod Sums

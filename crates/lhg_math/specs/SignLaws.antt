@@ -1,0 +1,74 @@
+-- Laws of signs, sizes and equality of numbers.
+use Rattle.std.specs.Prelude.{◌≡◌, true, false, not, cond, ◌&&◌, refl}
+use Rattle.std.specs.Bool.{Decides}
+use Rattle.std.specs.Cmp.{IsEquivalence}
+use Rattle.std.proofs.Common.{sym, ap, ◌∙◌, subst}
+use Rattle.lhg_math.specs.Number.{Number, add, mul, neg, lt, nought, unit}
+use Rattle.lhg_math.specs.NumberRing.{mul-nought, mul-neg, neg_nought}
+use Rattle.lhg_math.specs.NumberOrder.{lt-mul, lt-nought_neg, lt_irrefl, lt_antisymm, lt_asym}
+use Rattle.lhg_math.specs.Signs.{size_of, is_nought, same_number}
+use Rattle.lhg_math.specs.Tests.{by_bool}
+
+-- a number equals itself
+pub same_number-self : (x : Number) → same_number x x ≡ true
+same_number-self x = rw (lt_irrefl x) refl
+
+-- numbers that are the same by the test are equal
+pub same_is : (x y : Number) → same_number x y ≡ true → x ≡ y
+same_is x y h =
+    by_bool (lt x y) (λ e. let z : false ≡ true = rw e at h in cc)
+    (λ e. by_bool (lt y x) (λ f. let z : false ≡ true = rw (e, f) at h in cc) (λ f. lt_antisymm x y e f))
+
+-- the test says exactly which numbers are equal
+pub Decides-same_number : (x y : Number) → Decides (same_number x y) (x ≡ y)
+Decides-same_number x y = (same_is x y, λ e. subst (λ z. same_number x z ≡ true) e (same_number-self x))
+
+-- the test does not depend on the order of the two
+pub same_number-comm : (x y : Number) → same_number x y ≡ same_number y x
+same_number-comm x y =
+    by_bool (lt x y)
+    (λ e. by_bool (lt y x) (λ f. rw (e, f) refl) (λ f. rw (e, f) refl))
+    (λ e. by_bool (lt y x) (λ f. rw (e, f) refl) (λ f. rw (e, f) refl))
+
+-- equality of numbers is an equivalence
+pub same_number_equivalence : IsEquivalence same_number
+same_number_equivalence = record {
+  refl = same_number-self;
+  symm = same_number-comm;
+  congr = λ x y z h. ap (λ w. same_number w z) (same_is x y h);
+}
+
+-- the test for 0 passes 0 alone
+pub nought_is : (x : Number) → is_nought x ≡ true → x ≡ nought
+nought_is x h = same_is x nought h
+
+pub is_nought-nought : is_nought nought ≡ true
+is_nought-nought = same_number-self nought
+
+-- the size of a number that is not 0 is positive
+pub size_above : (x : Number) → is_nought x ≡ false → lt nought (size_of x) ≡ true
+size_above x h =
+    by_bool (lt x nought) (λ e. rw e (lt-nought_neg x ∙ e))
+    (λ e. by_bool (lt nought x) (λ f. rw e f) (λ f. let z : true ≡ false = rw (e, f) at h in cc))
+
+-- no size is negative
+pub size_from : (x : Number) → lt (size_of x) nought ≡ false
+size_from x =
+    by_bool (is_nought x)
+    (λ e. ap (λ w. lt (size_of w) nought) (nought_is x e) ∙ rw (lt_irrefl nought) (lt_irrefl nought))
+    (λ e. lt_asym nought (size_of x) (size_above x e))
+
+-- a positive factor keeps the sign
+pub lt-nought_scaled : (k x : Number) → lt nought k ≡ true → lt (mul k x) nought ≡ lt x nought
+lt-nought_scaled k x h = ap (λ w. lt (mul k x) w) (sym (mul-nought k)) ∙ lt-mul k x nought h
+
+pub nought_lt-scaled : (k x : Number) → lt nought k ≡ true → lt nought (mul k x) ≡ lt nought x
+nought_lt-scaled k x h = ap (λ w. lt w (mul k x)) (sym (mul-nought k)) ∙ lt-mul k nought x h
+
+pub is_nought-scaled : (k x : Number) → lt nought k ≡ true → is_nought (mul k x) ≡ is_nought x
+is_nought-scaled k x h = rw (lt-nought_scaled k x h, nought_lt-scaled k x h) refl
+
+-- a positive factor comes out of a size
+pub size_of-scaled : (k x : Number) → lt nought k ≡ true → size_of (mul k x) ≡ mul k (size_of x)
+size_of-scaled k x h =
+    ap (λ b. cond b (neg (mul k x)) (mul k x)) (lt-nought_scaled k x h) ∙ by_bool (lt x nought) (λ e. rw e (sym (mul-neg k x))) (λ e. rw e refl)

@@ -1,0 +1,5 @@
+pub mod Commons
+pub mod Fields
+pub mod Halted
+pub mod Results
+pub mod Same

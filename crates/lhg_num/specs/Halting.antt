@@ -1,0 +1,50 @@
+-- When a call may halt.
+use Rattle.std.specs.Prelude.{◌≡◌, true, Result, Ok, Err}
+use Rattle.lhg_num.specs.Marked.{Marked}
+use Rattle.lhg_num.specs.declared.refusals.Halt.{Halt}
+use Rattle.lhg_num.specs.declared.refusals.Halt.TheVariants.{Wide, Rows, Pieces, Memory}
+
+-- the calculus gives the value, and it is past the named limit where the call halts for one: halts: Wide, Rows, Pieces
+abbrev pub IsHaltedBy : {T A : Type 0} → Result T Halt → Marked A → (T → A) → Type 0
+IsHaltedBy (Ok x) m f = f x ≡ m.value
+IsHaltedBy (Err Wide) m f = m.wide ≡ true
+IsHaltedBy (Err Rows) m f = m.rows ≡ true
+IsHaltedBy (Err Pieces) m f = m.pieces ≡ true
+IsHaltedBy (Err Memory) m f = Unit {0}
+
+-- halts: Wide, Rows
+abbrev pub IsHaltedByRows : {T A : Type 0} → Result T Halt → Marked A → (T → A) → Type 0
+IsHaltedByRows (Ok x) m f = f x ≡ m.value
+IsHaltedByRows (Err Wide) m f = m.wide ≡ true
+IsHaltedByRows (Err Rows) m f = m.rows ≡ true
+IsHaltedByRows (Err Pieces) m f = ⊥
+IsHaltedByRows (Err Memory) m f = Unit {0}
+
+-- halts: Wide
+abbrev pub IsHaltedByWide : {T A : Type 0} → Result T Halt → Marked A → (T → A) → Type 0
+IsHaltedByWide (Ok x) m f = f x ≡ m.value
+IsHaltedByWide (Err Wide) m f = m.wide ≡ true
+IsHaltedByWide (Err Rows) m f = ⊥
+IsHaltedByWide (Err Pieces) m f = ⊥
+IsHaltedByWide (Err Memory) m f = Unit {0}
+
+-- answers Wide alone
+abbrev pub IsWideBy : {T E A : Type 0} → Result T E → Marked A → (T → A) → Type 0
+IsWideBy (Ok x) m f = f x ≡ m.value
+IsWideBy (Err e) m f = m.wide ≡ true
+
+-- halts: Pieces
+abbrev pub IsHaltedByPieces : {T A : Type 0} → Result T Halt → Marked A → (T → A) → Type 0
+IsHaltedByPieces (Ok x) m f = f x ≡ m.value
+IsHaltedByPieces (Err Wide) m f = ⊥
+IsHaltedByPieces (Err Rows) m f = ⊥
+IsHaltedByPieces (Err Pieces) m f = m.pieces ≡ true
+IsHaltedByPieces (Err Memory) m f = Unit {0}
+
+-- halts for want of memory alone
+abbrev pub IsHaltedByMemory : {T A : Type 0} → Result T Halt → Marked A → (T → A) → Type 0
+IsHaltedByMemory (Ok x) m f = f x ≡ m.value
+IsHaltedByMemory (Err Wide) m f = ⊥
+IsHaltedByMemory (Err Rows) m f = ⊥
+IsHaltedByMemory (Err Pieces) m f = ⊥
+IsHaltedByMemory (Err Memory) m f = Unit {0}

@@ -1,0 +1,11 @@
+pub mod Arithmetic
+pub mod FracArithmetic
+pub mod FracCanon
+pub mod FracModel
+pub mod Halting
+pub mod Laws
+pub mod Limits
+pub mod Marked
+pub mod MarkedLaws
+pub mod Parts
+pub mod Stored

@@ -1,0 +1,32 @@
+-- The parts of a result, where each formed number is within the limit.
+use Rattle.std.specs.Prelude.{ℤ, pos, ◌+ℤ◌, ◌*ℤ◌, Option, Some, None}
+use Rattle.std.specs.Int.RustNames.{unsigned_abs, int_div}
+use Rattle.lhg_math.specs.Gcd.{gcd}
+use Rattle.lhg_num.specs.Limits.{formed}
+
+abbrev pub both_of : Option ℤ → Option ℤ → Option (ℤ × ℤ)
+both_of None _ = None
+both_of (Some t) None = None
+both_of (Some t) (Some b) = Some (t, b)
+
+abbrev pub product_parts : ℤ → ℤ → ℤ → ℤ → Option (ℤ × ℤ)
+product_parts a b c d =
+    let g = pos (gcd (unsigned_abs a) (unsigned_abs d)) in
+    let h = pos (gcd (unsigned_abs c) (unsigned_abs b)) in
+    both_of (formed (int_div a g *ℤ int_div c h)) (formed (int_div b h *ℤ int_div d g))
+
+abbrev pub after_sum : ℤ → ℤ → ℤ → Option ℤ → Option (ℤ × ℤ)
+after_sum b d g None = None
+after_sum b d g (Some s) = let h = pos (gcd (unsigned_abs s) (unsigned_abs g)) in both_of (Some (int_div s h)) (formed (int_div b g *ℤ int_div d h))
+
+abbrev pub reduced_parts : ℤ → ℤ → ℤ → ℤ → ℤ → Option (ℤ × ℤ)
+reduced_parts p q b d g = after_sum b d g (formed (p +ℤ q))
+
+abbrev pub after_products : ℤ → ℤ → ℤ → Option (ℤ × ℤ) → Option (ℤ × ℤ)
+after_products b d g None = None
+after_products b d g (Some pq) = reduced_parts pq.0 pq.1 b d g
+
+abbrev pub total_parts : ℤ → ℤ → ℤ → ℤ → Option (ℤ × ℤ)
+total_parts a b c d =
+    let g = pos (gcd (unsigned_abs b) (unsigned_abs d)) in
+    after_products b d g (both_of (formed (a *ℤ int_div d g)) (formed (c *ℤ int_div b g)))

@@ -1,0 +1,12 @@
+// Exact fractions in 128 bits, and what every number type offers.
+#![tactic(auto)]
+
+mod fraction;
+pub mod laws;
+mod number_type;
+mod parts;
+mod refusals;
+
+pub use fraction::Frac;
+pub use number_type::Scalar;
+pub use refusals::{DivError, Halt, Wide};

@@ -1,0 +1,111 @@
+// Arithmetic on numerators and denominators.
+ghost use Rattle.std.specs.Prelude.{◌≡◌, ℕ, ◌+◌, ◌%◌, ◌^◌, ◌<◌, ◌≤◌, ℤ, pos, ◌+ℤ◌, ◌*ℤ◌, unsigned_abs, ◌<ℤ◌};
+ghost use Rattle.std.specs.Prelude.{◌&&◌};
+ghost use Rattle.std.specs.Int.RustNames.{int_div};
+ghost use Rattle.std.specs.Ordering.{int_eq};
+ghost use Rattle.lhg_math.specs.Gcd as spec;
+ghost use Rattle.lhg_num.specs.Limits.{formed};
+ghost use Rattle.lhg_num.specs.Stored.{IsStored};
+ghost use Rattle.lhg_num.specs.Parts.{product_parts, both_of, total_parts, reduced_parts};
+
+pub(crate) fn gcd(a: u128, b: u128) -> u128
+    ensures { result ≡ spec.gcd a b }
+{
+    let mut x = a;
+    let mut y = b;
+    while y != 0 {
+        let rest = x % y;
+        x = y;
+        y = rest;
+    }
+    x
+}
+
+pub(crate) fn times(a: i128, b: i128) -> Option<i128>
+    ensures { result ≡ formed (a *ℤ b) }
+{
+    match a.checked_mul(b) {
+        Some(product) if product != i128::MIN => Some(product),
+        _ => None,
+    }
+}
+
+pub(crate) fn plus(a: i128, b: i128) -> Option<i128>
+    ensures { result ≡ formed (a +ℤ b) }
+{
+    match a.checked_add(b) {
+        Some(sum) if sum != i128::MIN => Some(sum),
+        _ => None,
+    }
+}
+
+// The greatest common divisor of a numerator and a denominator.
+pub(crate) fn common(n: i128, d: i128) -> i128
+    requires { pos 0 <ℤ d }
+    ensures value { result ≡ pos (spec.gcd (unsigned_abs n) (unsigned_abs d)) }
+    ensures above { pos 0 <ℤ result }
+{
+    gcd(n.unsigned_abs(), d.unsigned_abs()) as i128
+}
+
+pub(crate) fn part(a: i128, g: i128) -> i128
+    requires { pos 0 <ℤ g }
+    ensures { result ≡ int_div a g }
+{
+    a / g
+}
+
+// The numerator and the denominator of the product of a / b and c / d.
+pub(crate) fn product(a: i128, b: i128, c: i128, d: i128) -> Option<(i128, i128)>
+    requires left { pos 0 <ℤ b }
+    requires right { pos 0 <ℤ d }
+    ensures { result ≡ product_parts a b c d }
+{
+    let g = common(a, d);
+    let h = common(c, b);
+    let top = times(part(a, g), part(c, h));
+    let bottom = times(part(b, h), part(d, g));
+    both(top, bottom)
+}
+
+fn both(top: Option<i128>, bottom: Option<i128>) -> Option<(i128, i128)>
+    ensures { result ≡ both_of top bottom }
+{
+    match (top, bottom) {
+        (Some(t), Some(b)) => Some((t, b)),
+        _ => None,
+    }
+}
+
+// The numerator and the denominator of the sum of a / b and c / d.
+pub(crate) fn total(a: i128, b: i128, c: i128, d: i128) -> Option<(i128, i128)>
+    requires left { pos 0 <ℤ b }
+    requires right { pos 0 <ℤ d }
+    ensures { result ≡ total_parts a b c d }
+{
+    let g = common(b, d);
+    match both(times(a, part(d, g)), times(c, part(b, g))) {
+        Some((p, q)) => reduced(p, q, b, d, g),
+        None => None,
+    }
+}
+
+fn reduced(p: i128, q: i128, b: i128, d: i128, g: i128) -> Option<(i128, i128)>
+    requires { pos 0 <ℤ g }
+    ensures { result ≡ reduced_parts p q b d g }
+{
+    match plus(p, q) {
+        Some(sum) => {
+            let h = common(sum, g);
+            both(Some(part(sum, h)), times(part(b, g), part(d, h)))
+        }
+        None => None,
+    }
+}
+
+// Whether the two fractions have the same parts.
+pub(crate) fn same(a: i128, b: i128, c: i128, d: i128) -> bool
+    ensures { result ≡ (int_eq a c && int_eq b d) }
+{
+    a == c && b == d
+}
