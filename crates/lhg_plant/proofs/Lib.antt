@@ -1,0 +1,13 @@
+pub mod Decided
+pub mod GuardTruth
+pub mod LogDecided
+pub mod Losses
+pub mod Monotone
+pub mod Options
+pub mod Rounds
+pub mod RunAnswers
+pub mod RunDetermined
+pub mod RunExists
+pub mod RunInside
+pub mod Settled
+pub mod StaysInside

@@ -1,0 +1,14 @@
+use Rattle.lhg_plant.proofs.StaysInside.{run_inside}
+use Rattle.lhg_plant.proofs.RunExists.{stays}
+use Rattle.lhg_plant.proofs.RunDetermined.{run_once}
+use Rattle.lhg_plant.proofs.LogDecided.{log_decided, legal_or_illegal}
+use Rattle.lhg_plant.proofs.law_run.Goals as goal
+
+pub returns : goal.returns
+returns c = λ a k. record {
+  answered = stays a k;
+  inside = run_inside a k;
+  determined = run_once a k;
+  decided = log_decided a k;
+  exclusive = legal_or_illegal a k;
+}

@@ -1,0 +1,65 @@
+-- Which laws does the safety game obey, for every plant?
+use Rattle.std.specs.Prelude.{◌≡◌, ◌≤◌, ◌↔◌, ◌⊎◌, ℕ, suc, List}
+use Rattle.lhg_plant.specs.Plant.{PlainPlant}
+use Rattle.lhg_plant.specs.State.{PlainState, States, IsState, IsSafe}
+use Rattle.lhg_plant.specs.OutBack.{Out, Back, BackBy}
+use Rattle.lhg_plant.specs.Escape.{MayPass, HasEscape, IsSecure}
+use Rattle.lhg_plant.specs.Round.{InRound, IsRemovedIn, RemovesNothing, IsLastRound}
+use Rattle.lhg_plant.specs.Loss.{PlainLoss, InLoss, HasMove, IsTrueLoss}
+use Rattle.lhg_plant.specs.Sound.{Shows, IsSoundLoss}
+use Rattle.lhg_plant.specs.Region.{PlainRegion, PlainGuards, InRegion, InGuard}
+use Rattle.lhg_plant.specs.Controller.{PlainController, IsValid}
+use Rattle.lhg_plant.specs.Run.{PlainEntry, PlainStep, RunPlace, IsRun}
+use Rattle.lhg_plant.specs.Log.{EachVisited, IsLegalLog, IsFirstIllegal, StaysInside}
+
+-- whether a point is a state, is safe, is in a region or in a guard is decidable
+pub record MemberLaws (a : PlainPlant) : Type 0 where
+  pub state : (s : PlainState) → IsState a s ⊎ ¬ IsState a s
+  pub safe : (s : PlainState) → IsSafe a s ⊎ ¬ IsSafe a s
+  pub region : (r : PlainRegion) (s : PlainState) → InRegion a r s ⊎ ¬ InRegion a r s
+  pub guard : (g : PlainGuards) (e : ℕ) (s : PlainState) → InGuard a g e s ⊎ ¬ InGuard a g e s
+
+-- where T lies inside S: Out shrinks and Back grows from T to S, so an escape from S is one from T
+pub record MonotoneLaws (a : PlainPlant) (T S : States) : Type 0 where
+  pub out : (s : PlainState) → Out a S s → Out a T s
+  pub back : (s : PlainState) → Back a T s → Back a S s
+  pub escape : (s : PlainState) → HasEscape a S (Back a S) s → HasEscape a T (Back a T) s
+
+-- rounds shrink and hold safe states; a state is removed in at most one of them; every secure region lies in each of them;
+-- a round that removes nothing leaves a secure set, which all later rounds are; and there is at most one last round
+pub record RoundLaws (a : PlainPlant) : Type 0 where
+  pub shrink : (i j : ℕ) (s : PlainState) → i ≤ j → InRound a j s → InRound a i s
+  pub safe : (i : ℕ) (s : PlainState) → InRound a i s → IsSafe a s
+  pub once : (i j : ℕ) (s : PlainState) → IsRemovedIn a i s → IsRemovedIn a j s → i ≡ j
+  pub holds_secure : (r : PlainRegion) → IsSecure a (InRegion a r) → (i : ℕ) (s : PlainState) → InRegion a r s → InRound a i s
+  pub settled : (i : ℕ) → RemovesNothing a (suc i) → IsSecure a (InRound a i)
+  pub stays : (i j : ℕ) (s : PlainState) → RemovesNothing a (suc i) → InRound a i s → InRound a j s
+  pub last_once : (i j : ℕ) → IsLastRound a i → IsLastRound a j → i ≡ j
+
+-- the guards of the controller are the states of its region that are in Back of it by the switch
+abbrev pub HasExactGuards : PlainPlant → PlainController → Type 0
+HasExactGuards a c = (e : ℕ) (s : PlainState) → InGuard a c.guards e s ↔ (InRegion a c.region s × BackBy a (InRegion a c.region) e s)
+
+-- a secure region with these guards is a valid controller, and so is the region of a round after which nothing is removed
+pub record ValidLaws (a : PlainPlant) (c : PlainController) : Type 0 where
+  pub secure : HasExactGuards a c → IsSecure a (InRegion a c.region) → IsValid a c
+  pub settled : HasExactGuards a c → (i : ℕ) → RemovesNothing a (suc i) → ((s : PlainState) → InRegion a c.region s ↔ InRound a i s) → IsValid a c
+
+-- a valid controller has a run over each legal log, it has one alone, and the visited states of each run are in its region;
+-- each log is legal or has a first illegal entry, and not both
+pub record RunLaws (a : PlainPlant) (c : PlainController) : Type 0 where
+  pub answered : IsValid a c → (start : PlainState) (entries : List PlainEntry) → IsLegalLog a c start entries → StaysInside a c start entries
+  pub inside : IsValid a c → (start : PlainState) (entries : List PlainEntry) (trace : List PlainStep) (last : RunPlace)
+      → IsRun a c start entries trace last → EachVisited (InRegion a c.region) start trace
+  pub determined : (start : PlainState) (entries : List PlainEntry) (trace made : List PlainStep) (last there : RunPlace)
+      → IsRun a c start entries trace last → IsRun a c start entries made there → (trace ≡ made) × (last ≡ there)
+  pub decided : IsValid a c → (start : PlainState) (entries : List PlainEntry)
+      → IsLegalLog a c start entries ⊎ ((n : ℕ) × IsFirstIllegal a c start entries n)
+  pub exclusive : (start : PlainState) (entries : List PlainEntry) (n : ℕ) → IsLegalLog a c start entries → ¬ IsFirstIllegal a c start entries n
+
+-- a sound record is true; and where each of its states is in Out or not in Back, its pieces alone show the move
+pub record LossLaws (a : PlainPlant) (losses : List PlainLoss) (loss : PlainLoss) : Type 0 where
+  pub sound_true : IsSoundLoss a losses loss → IsTrueLoss a losses loss
+  pub shown : (i : ℕ) → ((s : PlainState) → InLoss a loss s → MayPass a (InRound a i) (Back a (InRound a i)) s)
+      → Shows a (InRound a i) losses loss loss.cause
+      → (s : PlainState) → InLoss a loss s → HasMove a (InRound a i) losses loss loss.cause s

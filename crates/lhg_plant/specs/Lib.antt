@@ -1,0 +1,13 @@
+pub mod Controller
+pub mod Escape
+pub mod Laws
+pub mod Legal
+pub mod Log
+pub mod Loss
+pub mod OutBack
+pub mod Plant
+pub mod Region
+pub mod Round
+pub mod Run
+pub mod Sound
+pub mod State
