@@ -7,6 +7,7 @@ pub mod Decisions
 pub mod Enclose
 pub mod Flow
 pub mod Join
+pub mod Kinds
 pub mod Laws
 pub mod Members
 pub mod Piece

@@ -1,42 +1,7 @@
-// Rows, pieces, segments, flows, plays and check points: their definitions and laws.
+// Rows and points, and what they mean: pieces, segments, flows, plays and check points.
 #![tactic(auto)]
 
-ghost use Rattle.std.specs.Coded.{Coded};
-ghost use Rattle.lhg_row.specs.Row.{PlainRow, PlainPoint};
-ghost use Rattle.lhg_row.specs.Laws.{TruthLaws, PlaceLaws, TurnLaws, ConvexLaws, FlowLaws, SpeedLaws, PlayLaws, CheckPointLaws, FiniteLaw};
+pub mod laws;
+mod rows;
 
-/// Whether a row holds at a point, and whether a point is in a piece or in one of some pieces, is decidable.
-pub fn law_truth()
-    ensures { TruthLaws }
-{}
-
-/// What holds along a segment: a row's value moves evenly, so it turns at one place at most; pieces are convex, and
-/// between lies inside.
-pub fn law_segments()
-    ensures places { PlaceLaws }
-    ensures turns { TurnLaws }
-    ensures convex { ConvexLaws }
-{}
-
-/// Straight flows join, parts of a flow are flows, and legality is decidable.
-pub fn law_flows()
-    ensures join { FlowLaws }
-    ensures speed { SpeedLaws }
-{}
-
-/// Plays are read flow by flow.
-pub fn law_plays()
-    ensures { PlayLaws }
-{}
-
-/// The check points are finitely many, and between neighbours no row changes its truth.
-pub fn law_check_points()
-    ensures between { CheckPointLaws }
-    ensures finite { FiniteLaw }
-{}
-
-/// Points and rows are stored as plain data.
-pub fn law_code()
-    ensures point { Coded PlainPoint }
-    ensures row { Coded PlainRow }
-{}
+pub use rows::{Kind, Point, Row};

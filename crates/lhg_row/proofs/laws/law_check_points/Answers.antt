@@ -1,7 +1,7 @@
 use Rattle.lhg_row.specs.CheckLemmas.{neighbours_truth}
 use Rattle.lhg_row.specs.Enclose.{enclose}
 use Rattle.lhg_row.specs.CheckPlaces.{check_is_place, check_places}
-use Rattle.lhg_row.proofs.law_check_points.Goals as goal
+use Rattle.lhg_row.proofs.laws.law_check_points.Goals as goal
 
 pub returns-clause-between : goal.returns-clause-between
 returns-clause-between c = record { enclosed = enclose; truth = neighbours_truth; place = check_is_place }

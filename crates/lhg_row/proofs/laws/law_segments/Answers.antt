@@ -1,6 +1,6 @@
 use Rattle.lhg_row.specs.SegmentLemmas.{value_along, along_start, along_end, along_twice}
 use Rattle.lhg_row.specs.Convex.{row_constant, row_turns, piece_convex, piece_between, piece_towards, piece_ends}
-use Rattle.lhg_row.proofs.law_segments.Goals as goal
+use Rattle.lhg_row.proofs.laws.law_segments.Goals as goal
 
 pub returns-clause-places : goal.returns-clause-places
 returns-clause-places c = record { start = along_start; end_at = along_end; twice = along_twice }

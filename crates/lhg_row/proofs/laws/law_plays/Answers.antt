@@ -1,6 +1,6 @@
 use Rattle.lhg_row.specs.PlayLemmas.{earlier_none, earlier_one, one_earlier, earlier_more, more_first, more_rest, play_ends}
 use Rattle.lhg_row.specs.Laws.{Passes}
-use Rattle.lhg_row.proofs.law_plays.Goals as goal
+use Rattle.lhg_row.proofs.laws.law_plays.Goals as goal
 
 pub returns : goal.returns
 returns c = record {

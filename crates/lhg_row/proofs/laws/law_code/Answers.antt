@@ -1,5 +1,5 @@
 use Rattle.lhg_row.specs.PlainCode.{point_code, row_code}
-use Rattle.lhg_row.proofs.law_code.Goals as goal
+use Rattle.lhg_row.proofs.laws.law_code.Goals as goal
 
 pub returns-clause-point : goal.returns-clause-point
 returns-clause-point c = point_code
