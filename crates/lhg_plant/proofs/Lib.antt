@@ -3,6 +3,7 @@ pub mod GuardTruth
 pub mod LogDecided
 pub mod Losses
 pub mod Monotone
+pub mod NameBytes
 pub mod Options
 pub mod Rounds
 pub mod RunAnswers

@@ -4,6 +4,7 @@ pub mod Laws
 pub mod Legal
 pub mod Log
 pub mod Loss
+pub mod NameModel
 pub mod OutBack
 pub mod Plant
 pub mod Region
@@ -11,3 +12,4 @@ pub mod Round
 pub mod Run
 pub mod Sound
 pub mod State
+pub mod Word

@@ -1,57 +1,11 @@
 // Plants, their states, and the safety game on them.
 #![tactic(auto)]
 
-ghost use Rattle.std.specs.Prelude.{ℕ, List};
-ghost use Rattle.lhg_plant.specs.Plant.{PlainPlant};
-ghost use Rattle.lhg_plant.specs.State.{PlainState};
-ghost use Rattle.lhg_plant.specs.Escape.{IsSecure};
-ghost use Rattle.lhg_plant.specs.Round.{InRound};
-ghost use Rattle.lhg_plant.specs.Controller.{PlainController};
-ghost use Rattle.lhg_plant.specs.Loss.{PlainLoss};
-ghost use Rattle.lhg_plant.specs.Laws.{MemberLaws, MonotoneLaws, RoundLaws, ValidLaws, RunLaws, LossLaws};
+pub mod laws;
+mod names;
+mod plants;
+mod sets;
 
-pub mod plants;
-pub mod sets;
-
+pub use names::Name;
 pub use plants::Side;
 pub use sets::StateSet;
-
-/// Whether a point is a state, is safe, or is in a region or a guard is decidable.
-pub fn law_members()
-    ensures { (a : PlainPlant) → MemberLaws a }
-{}
-
-/// Out shrinks and Back grows when the set grows.
-pub fn law_monotone<T: StateSet, U: StateSet>(small: &T, large: &U)
-    ensures { (a : PlainPlant) → ((s : PlainState) → T.belongs small.now a s → U.belongs large.now a s) → MonotoneLaws a (T.belongs small.now a) (U.belongs large.now a) }
-{
-    let _ = small;
-    let _ = large;
-}
-
-/// Rounds shrink, remove each state once, and settle in a secure set.
-pub fn law_rounds()
-    ensures { (a : PlainPlant) → RoundLaws a }
-{}
-
-/// Every secure set lies in every round.
-pub fn law_secure_sets<T: StateSet>(set: &T)
-    ensures { (a : PlainPlant) → IsSecure a (T.belongs set.now a) → (i : ℕ) (s : PlainState) → T.belongs set.now a s → InRound a i s }
-{
-    let _ = set;
-}
-
-/// A secure region with the guards from its Back is a valid controller.
-pub fn law_valid()
-    ensures { (a : PlainPlant) (c : PlainController) → ValidLaws a c }
-{}
-
-/// A valid controller has exactly one run over each legal log, and all its visited states are in the region.
-pub fn law_run()
-    ensures { (a : PlainPlant) (c : PlainController) → RunLaws a c }
-{}
-
-/// Sound loss records are true.
-pub fn law_losses()
-    ensures { (a : PlainPlant) (losses : List PlainLoss) (loss : PlainLoss) → LossLaws a losses loss }
-{}

@@ -2,7 +2,7 @@ use Rattle.lhg_plant.proofs.StaysInside.{run_inside}
 use Rattle.lhg_plant.proofs.RunExists.{stays}
 use Rattle.lhg_plant.proofs.RunDetermined.{run_once}
 use Rattle.lhg_plant.proofs.LogDecided.{log_decided, legal_or_illegal}
-use Rattle.lhg_plant.proofs.law_run.Goals as goal
+use Rattle.lhg_plant.proofs.laws.law_run.Goals as goal
 
 pub returns : goal.returns
 returns c = λ a k. record {

@@ -1,6 +1,6 @@
 use Rattle.lhg_plant.specs.Region.{InRegion}
 use Rattle.lhg_plant.proofs.Rounds.{rounds_shrink, round_safe, removed_once, secure_in_round, settled_secure, settled_stays, last_once}
-use Rattle.lhg_plant.proofs.law_rounds.Goals as goal
+use Rattle.lhg_plant.proofs.laws.law_rounds.Goals as goal
 
 pub returns : goal.returns
 returns c = λ a. record {
