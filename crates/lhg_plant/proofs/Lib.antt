@@ -11,4 +11,7 @@ pub mod RunDetermined
 pub mod RunExists
 pub mod RunInside
 pub mod Settled
+pub mod Solutions
 pub mod StaysInside
+pub mod StillFlow
+pub mod StillPlays

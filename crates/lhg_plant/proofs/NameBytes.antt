@@ -19,5 +19,6 @@ kept_name bytes h =
     }
 
 -- the same of a copy of the bytes
-pub kept_copy : (copied bytes : List ℕ) → copied ≡ bytes → IsName bytes → IsKept (inside (copied ++ drop (length bytes) (replicate 32 0)) (length bytes))
+pub kept_copy : (copied bytes : List ℕ) → copied ≡ bytes → IsName bytes
+    → IsKept (inside (copied ++ drop (length bytes) (replicate 32 0)) (length bytes))
 kept_copy copied bytes e h = subst (λ (b : List ℕ). IsKept (inside (b ++ drop (length bytes) (replicate 32 0)) (length bytes))) (sym e) (kept_name bytes h)

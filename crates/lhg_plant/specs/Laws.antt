@@ -1,7 +1,10 @@
 -- Which laws does the safety game obey, for every plant?
-use Rattle.std.specs.Prelude.{◌≡◌, ◌≤◌, ◌↔◌, ◌⊎◌, ℕ, suc, List}
+use Rattle.std.specs.Prelude.{◌≡◌, ◌≤◌, ◌↔◌, ◌⊎◌, ℕ, suc, List, []}
+use Rattle.lhg_row.specs.Members.{AllOf, SomeOf}
+use Rattle.lhg_row.specs.Play.{PlainMove, EachPoint}
 use Rattle.lhg_plant.specs.Plant.{PlainPlant}
 use Rattle.lhg_plant.specs.State.{PlainState, States, IsState, IsSafe}
+use Rattle.lhg_plant.specs.Legal.{IsPlayFrom}
 use Rattle.lhg_plant.specs.OutBack.{Out, Back, BackBy}
 use Rattle.lhg_plant.specs.Escape.{MayPass, HasEscape, IsSecure}
 use Rattle.lhg_plant.specs.Round.{InRound, IsRemovedIn, RemovesNothing, IsLastRound}
@@ -10,6 +13,8 @@ use Rattle.lhg_plant.specs.Sound.{Shows, IsSoundLoss}
 use Rattle.lhg_plant.specs.Region.{PlainRegion, PlainGuards, InRegion, InGuard}
 use Rattle.lhg_plant.specs.Controller.{PlainController, IsValid}
 use Rattle.lhg_plant.specs.Run.{PlainEntry, PlainStep, RunPlace, IsRun}
+use Rattle.lhg_plant.specs.Solution.{IsSolution}
+use Rattle.lhg_plant.specs.Still.{IsStill, HasNoSwitch}
 use Rattle.lhg_plant.specs.Log.{EachVisited, IsLegalLog, IsFirstIllegal, StaysInside}
 
 -- whether a point is a state, is safe, is in a region or in a guard is decidable
@@ -63,3 +68,20 @@ pub record LossLaws (a : PlainPlant) (losses : List PlainLoss) (loss : PlainLoss
   pub shown : (i : ℕ) → ((s : PlainState) → InLoss a loss s → MayPass a (InRound a i) (Back a (InRound a i)) s)
       → Shows a (InRound a i) losses loss loss.cause
       → (s : PlainState) → InLoss a loss s → HasMove a (InRound a i) losses loss loss.cause s
+
+-- the round before the last one, with the guards from its Back and with true records of all that was lost, is a solution
+abbrev pub SolvedLaw : Type 0
+SolvedLaw = (a : PlainPlant) (c : PlainController) (i : ℕ) (losses : List PlainLoss)
+    → IsLastRound a (suc i) → ((s : PlainState) → InRegion a c.region s ↔ InRound a i s) → HasExactGuards a c
+    → ((s : PlainState) → IsSafe a s → ¬ InRegion a c.region s → SomeOf (λ loss. InLoss a loss s) losses) → AllOf (IsTrueLoss a losses) losses
+    → IsSolution a c (suc i) losses
+
+-- a still plant: each play stays at its point; and where there is no switch, no region has an escape past another, each round
+-- is all safe states, round 1 is the last, and a region of the safe states solves the game, with any guards and no record
+pub record StillLaws (a : PlainPlant) : Type 0 where
+  pub stays : IsStill a → (s : PlainState) (moves : List PlainMove) → IsPlayFrom a s moves → EachPoint (λ p. p ≡ s.at) s.at moves
+  pub closed : IsStill a → HasNoSwitch a → (r k : PlainRegion) (s : PlainState) → InRegion a r s → ¬ HasEscape a (InRegion a r) (InRegion a k) s
+  pub rounds : IsStill a → HasNoSwitch a → (i : ℕ) (s : PlainState) → InRound a i s ↔ IsSafe a s
+  pub last : IsStill a → HasNoSwitch a → IsLastRound a 1
+  pub solved : IsStill a → HasNoSwitch a → (r : PlainRegion) (g : PlainGuards) → ((s : PlainState) → InRegion a r s ↔ IsSafe a s)
+      → IsSolution a (record { region = r; guards = g }) 1 []

@@ -10,6 +10,8 @@ pub mod Plant
 pub mod Region
 pub mod Round
 pub mod Run
+pub mod Solution
 pub mod Sound
 pub mod State
+pub mod Still
 pub mod Word

@@ -2,11 +2,12 @@
 ghost use Rattle.std.specs.Prelude.{ℕ, List};
 ghost use Rattle.lhg_plant.specs.Plant.{PlainPlant};
 ghost use Rattle.lhg_plant.specs.State.{PlainState};
-ghost use Rattle.lhg_plant.specs.Escape.{IsSecure};
+ghost use Rattle.lhg_plant.specs.Escape.{HasEscape, IsSecure};
 ghost use Rattle.lhg_plant.specs.Round.{InRound};
+ghost use Rattle.lhg_plant.specs.Still.{IsStill, HasNoSwitch};
 ghost use Rattle.lhg_plant.specs.Controller.{PlainController};
 ghost use Rattle.lhg_plant.specs.Loss.{PlainLoss};
-ghost use Rattle.lhg_plant.specs.Laws.{MemberLaws, MonotoneLaws, RoundLaws, ValidLaws, RunLaws, LossLaws};
+ghost use Rattle.lhg_plant.specs.Laws.{MemberLaws, MonotoneLaws, RoundLaws, ValidLaws, RunLaws, LossLaws, SolvedLaw, StillLaws};
 
 use crate::sets::StateSet;
 
@@ -49,3 +50,21 @@ pub fn law_run()
 pub fn law_losses()
     ensures { (a : PlainPlant) (losses : List PlainLoss) (loss : PlainLoss) → LossLaws a losses loss }
 {}
+
+/// The round before the last one solves the game.
+pub fn law_solved()
+    ensures { SolvedLaw }
+{}
+
+/// What holds of a plant in which no flow moves a variable, over any number of variables.
+pub fn law_still()
+    ensures { (a : PlainPlant) → StillLaws a }
+{}
+
+/// In a plant in which nothing moves no set of states has an escape, past any other set.
+pub fn law_still_sets<T: StateSet, U: StateSet>(set: &T, past: &U)
+    ensures { (a : PlainPlant) → IsStill a → HasNoSwitch a → (s : PlainState) → T.belongs set.now a s → ¬ HasEscape a (T.belongs set.now a) (U.belongs past.now a) s }
+{
+    let _ = set;
+    let _ = past;
+}

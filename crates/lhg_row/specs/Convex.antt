@@ -18,7 +18,7 @@ strict_sign true e i h = h
 strict_sign false e i h = false_true i
 
 -- what is not true is false
-not_true : (b : Bool) → not b ≡ true → b ≡ false
+pub not_true : (b : Bool) → not b ≡ true → b ≡ false
 not_true true h = false_true h
 not_true false h = refl
 
