@@ -37,15 +37,18 @@ pub trait Source {
 /// Why not all bytes came.
 #[derive(Clone, Copy, Debug, PartialEq, Eq, Error)]
 pub enum ReadAll {
+    /// A read failed.
     #[error("Fault")]
     Fault,
+    /// More bytes were left than the limit.
     #[error("TooLong")]
     TooLong,
+    /// There was no memory for the bytes.
     #[error("Memory")]
     Memory,
 }
 
-/// All bytes that are left, where they are at most `limit`. The first fault ends the call.
+/// All bytes that are left, where they are at most `limit` bytes. The first fault ends the call.
 pub fn read_all<S: Source>(alloc: Global, src: &mut S, limit: usize) -> Result<Vec<u8>, ReadAll>
     requires { limit ≤ INPUT_LIMIT }
     // the bytes that were left, to the end

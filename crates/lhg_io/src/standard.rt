@@ -5,14 +5,16 @@ ghost use Rattle.lhg_io.specs.Faults.{count_of};
 use crate::{Failed, Sink, Source};
 use std::io::{Read, Write};
 
-/// A source over a reader of std. Of a stream it tells no bytes.
+/// A source over a reader of std. It tells the bytes that the reader tells, and of a stream none.
+/// Each failure of the reader is a fault.
 #[derive(Drop)]
-pub struct StdSource<R> {
+pub struct StdSource<R: Read> {
     reader: R,
     faults: u64,
 }
 
 impl<R: Read> StdSource<R> {
+    /// A source of what the reader has left, with no fault yet.
     pub fn new(reader: R) -> StdSource<R>
         ensures left { ⟦<StdSource<R> as Source>⟧.left result ≡ R.remaining reader }
         ensures fresh { ⟦<StdSource<R> as Source>⟧.faults result ≡ 0 }
@@ -41,14 +43,16 @@ impl<R: Read> Source for StdSource<R> {
     ghost at_most = { λ s. min-le_right _ _ };
 }
 
-/// A sink over a writer of std. Of a stream it tells no bytes.
+/// A sink over a writer of std. It tells the bytes that the writer tells, and of a stream none.
+/// Each failure of the writer is a fault, and so is a write that takes nothing of its piece.
 #[derive(Drop)]
-pub struct StdSink<W> {
+pub struct StdSink<W: Write> {
     writer: W,
     faults: u64,
 }
 
 impl<W: Write> StdSink<W> {
+    /// A sink that hands on to the writer, with no fault yet.
     pub fn new(writer: W) -> StdSink<W>
         ensures held { ⟦<StdSink<W> as Sink>⟧.held result ≡ W.contents writer }
         ensures fresh { ⟦<StdSink<W> as Sink>⟧.faults result ≡ 0 }

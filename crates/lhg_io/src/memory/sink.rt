@@ -46,7 +46,7 @@ impl Model for MemSink {
 }
 
 impl MemSink {
-    /// Reserves `room` bytes, so that no write asks for memory.
+    /// A sink that holds no byte yet. It reserves `room` bytes, so that no write asks for memory.
     pub fn new(
         alloc: Global,
         room: usize,

@@ -38,6 +38,7 @@ impl Model for MemSource {
 }
 
 impl MemSource {
+    /// A source that no call has read yet.
     pub fn new(bytes: Vec<u8>, step: usize, fails: Vec<u32>) -> MemSource
         requires { 1 ≤ step }
         ensures { result ≡ record {
