@@ -1,9 +1,11 @@
 pub mod Bounds
+pub mod Compared
 pub mod Crossings
 pub mod Gcd
 pub mod GcdLemmas
 pub mod Integers
 pub mod Interpolate
+pub mod Inverses
 pub mod Laws
 pub mod Lowest
 pub mod Number

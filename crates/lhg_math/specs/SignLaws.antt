@@ -1,11 +1,15 @@
 -- Laws of signs, sizes and equality of numbers.
 use Rattle.std.specs.Prelude.{◌≡◌, true, false, not, cond, ◌&&◌, refl}
 use Rattle.std.specs.Bool.{Decides}
+use Rattle.std.specs.Ordering.{is_eq}
 use Rattle.std.specs.Cmp.{IsEquivalence}
+use Rattle.std.specs.Prelude.{◌<◌}
+use Rattle.std.specs.Int.RustNames.{unsigned_abs}
 use Rattle.std.proofs.Common.{sym, ap, ◌∙◌, subst}
-use Rattle.lhg_math.specs.Number.{Number, add, mul, neg, lt, nought, unit}
+use Rattle.lhg_math.specs.Number.{Number, add, mul, neg, lt, nought, unit, sign_of}
 use Rattle.lhg_math.specs.NumberRing.{mul-nought, mul-neg, neg_nought}
 use Rattle.lhg_math.specs.NumberOrder.{lt-mul, lt-nought_neg, lt_irrefl, lt_antisymm, lt_asym}
+use Rattle.lhg_math.specs.Quotients.{abs_pos_of_lt, abs_pos_of_gt}
 use Rattle.lhg_math.specs.Signs.{size_of, is_nought, same_number}
 use Rattle.lhg_math.specs.Tests.{by_bool}
 
@@ -45,11 +49,22 @@ nought_is x h = same_is x nought h
 pub is_nought-nought : is_nought nought ≡ true
 is_nought-nought = same_number-self nought
 
+-- the order against 0 is equality exactly for 0
+pub is_eq-sign_of : (x : Number) → is_eq (sign_of x) ≡ is_nought x
+is_eq-sign_of x =
+    by_bool (lt x nought)
+    (λ e. rw e refl)
+    (λ e. by_bool (lt nought x) (λ f. rw (e, f) refl) (λ f. rw (e, f) refl))
+
 -- the size of a number that is not 0 is positive
 pub size_above : (x : Number) → is_nought x ≡ false → lt nought (size_of x) ≡ true
 size_above x h =
     by_bool (lt x nought) (λ e. rw e (lt-nought_neg x ∙ e))
     (λ e. by_bool (lt nought x) (λ f. rw e f) (λ f. let z : true ≡ false = rw (e, f) at h in cc))
+
+-- a positive number is not 0
+pub is_nought-positive : (x : Number) → lt nought x ≡ true → is_nought x ≡ false
+is_nought-positive x h = rw (lt_asym nought x h, h) refl
 
 -- no size is negative
 pub size_from : (x : Number) → lt (size_of x) nought ≡ false
@@ -72,3 +87,9 @@ is_nought-scaled k x h = rw (lt-nought_scaled k x h, nought_lt-scaled k x h) ref
 pub size_of-scaled : (k x : Number) → lt nought k ≡ true → size_of (mul k x) ≡ mul k (size_of x)
 size_of-scaled k x h =
     ap (λ b. cond b (neg (mul k x)) (mul k x)) (lt-nought_scaled k x h) ∙ by_bool (lt x nought) (λ e. rw e (sym (mul-neg k x))) (λ e. rw e refl)
+
+-- a number that is not 0 has a numerator that is not
+pub abs_pos : (x : Number) → is_nought x ≡ false → 0 < unsigned_abs x.top
+abs_pos x h =
+    by_bool (lt x nought) (λ e. abs_pos_of_gt x e)
+    (λ e. by_bool (lt nought x) (λ f. abs_pos_of_lt x f) (λ f. let z : true ≡ false = rw (e, f) at h in cc))

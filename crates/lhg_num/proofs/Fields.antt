@@ -12,13 +12,19 @@ use Rattle.lhg_num.specs.declared.fraction.Frac.TheInside.{Inside}
 pub fits_abs : (z : ℤ) → unsigned_abs z < 2 ^ 127 → FitsSigned w128 z
 fits_abs z h = fits_signed_from_abs w128 z h
 
+-- the fields are the parts of the number
+pub top_is : (f : Inside) → IsStored f.numerator f.denominator → (q : Number) → number_of f ≡ q → f.numerator ≡ q.top
+top_is f h q e = sym (ap (λ g. g.numerator) (fields_back f h)) ∙ ap (λ x. x.top) e
+
+pub bottom_is : (f : Inside) → IsStored f.numerator f.denominator → (q : Number) → number_of f ≡ q → f.denominator ≡ pos q.bottom
+bottom_is f h q e = sym (ap (λ g. g.denominator) (fields_back f h)) ∙ ap (λ (x : Number). pos x.bottom) e
+
+-- the same, as the code reads them
 pub numerator_is : (f : Inside) → IsStored f.numerator f.denominator → (q : Number) → number_of f ≡ q → to_z w128 (of_z w128 f.numerator) ≡ q.top
-numerator_is f h q e =
-    to_z-of_z w128 f.numerator (fits_abs f.numerator h.in_range) ∙ sym (ap (λ g. g.numerator) (fields_back f h)) ∙ ap (λ x. x.top) e
+numerator_is f h q e = to_z-of_z w128 f.numerator (fits_abs f.numerator h.in_range) ∙ top_is f h q e
 
 pub denominator_is : (f : Inside) → IsStored f.numerator f.denominator → (q : Number) → number_of f ≡ q → to_z w128 (of_z w128 f.denominator) ≡ pos q.bottom
-denominator_is f h q e =
-    to_z-of_z w128 f.denominator (fits_abs f.denominator h.below) ∙ sym (ap (λ g. g.denominator) (fields_back f h)) ∙ ap (λ (x : Number). pos x.bottom) e
+denominator_is f h q e = to_z-of_z w128 f.denominator (fits_abs f.denominator h.below) ∙ bottom_is f h q e
 
 pub neg_is_view : (f : Inside) → IsStored f.numerator f.denominator → (q : Number) → number_of f ≡ q
     → number_of (record { numerator = to_z w128 (of_z w128 (pos 0 -ℤ to_z w128 (of_z w128 f.numerator))); denominator = to_z w128 (of_z w128 f.denominator) }) ≡ neg q

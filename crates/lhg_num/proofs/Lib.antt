@@ -3,3 +3,7 @@ pub mod Fields
 pub mod Halted
 pub mod Results
 pub mod Same
+pub mod Made
+pub mod Middles
+pub mod ScaledRows
+pub mod Orders

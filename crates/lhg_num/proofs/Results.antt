@@ -5,6 +5,7 @@ use Rattle.std.specs.Int.{w128}
 use Rattle.std.specs.Int.RustNames.{unsigned_abs, int_div}
 use Rattle.lhg_math.specs.Gcd.{gcd}
 use Rattle.lhg_math.specs.Lowest.{IsLowest}
+use Rattle.lhg_math.specs.Tests.{by_bool}
 use Rattle.lhg_num.specs.Limits.{formed, is_past, frac_refuses_mul, frac_refuses_add}
 use Rattle.lhg_math.specs.Number.{Number, ratio, mul, add}
 use Rattle.lhg_math.specs.Sums.{sum_lowest, sum_is}
@@ -24,11 +25,7 @@ pub record AreFormed (refused : Bool) (value : Number) (t b : ℤ) : Type 0 wher
   pub stored : IsStored (to_z w128 (of_z w128 t)) (to_z w128 (of_z w128 b))
   pub same : number_of (record { numerator = to_z w128 (of_z w128 t); denominator = to_z w128 (of_z w128 b) }) ≡ value
 
-by_bool : {P : Type 0} (b : Bool) → (b ≡ true → P) → (b ≡ false → P) → P
-by_bool true f g = f refl
-by_bool false f g = g refl
-
-small : (z : ℤ) → is_past z ≡ false → unsigned_abs z < 2 ^ 127
+pub small : (z : ℤ) → is_past z ≡ false → unsigned_abs z < 2 ^ 127
 small z h = grind arith
 
 stored : (n : ℤ) (u : ℕ) → IsLowest n u → unsigned_abs n < 2 ^ 127 → u < 2 ^ 127 → IsStored n (pos u)
@@ -45,7 +42,7 @@ all_at T U l v e h k =
       same = ap (λ x. ratio x (unsigned_abs (to_z w128 (of_z w128 (pos U))))) ft ∙ ap (λ x. ratio T (unsigned_abs x)) fu ∙ e;
     }
 
-abbrev pair_or : Option (ℤ × ℤ) → ℤ × ℤ
+abbrev pub pair_or : Option (ℤ × ℤ) → ℤ × ℤ
 pair_or None = (pos 0, pos 0)
 pair_or (Some p) = p
 
@@ -60,10 +57,11 @@ formed_some T U l v e t b o =
     let z : b ≡ pos U = ap (λ q. (pair_or q).1) x in
     subst (λ w. AreFormed (is_past T || is_past (pos U)) v w b) (sym y) (subst (λ w. AreFormed (is_past T || is_past (pos U)) v T w) (sym z) (all_at T U l v e h k))))
 
-pub formed_none : (T : ℤ) (U : ℕ) → None ≡ both_of (formed T) (formed (pos U)) → (is_past T || is_past (pos U)) ≡ true
-formed_none T U o =
-    by_bool (is_past T) (λ h. rw h refl)
-    (λ h. by_bool (is_past (pos U)) (λ k. rw (h, k) refl) (λ k. let x : None ≡ Some (T, pos U) = rw (h, k) at o in cc))
+-- where the two were not both formed, one is past the limit
+pub formed_none : (P Q : ℤ) → None ≡ both_of (formed P) (formed Q) → (is_past P || is_past Q) ≡ true
+formed_none P Q o =
+    by_bool (is_past P) (λ h. rw h refl)
+    (λ h. by_bool (is_past Q) (λ k. rw (h, k) refl) (λ k. let x : None ≡ Some (P, Q) = rw (h, k) at o in cc))
 
 -- the quotient of a number within the limit is within it
 past_part : (s : ℤ) (h : ℕ) → is_past s ≡ false → is_past (int_div s (pos h)) ≡ false
@@ -117,7 +115,7 @@ module _ (f g : Inside) (hf : IsStored f.numerator f.denominator) (hg : IsStored
       formed_some _ _ (product_lowest x.top y.top x.bottom y.bottom x.lowest y.lowest) (mul x y) (product_is x.top y.top x.bottom y.bottom x.lowest y.lowest x y refl refl refl refl) t b (o ∙ parts_same)
 
   pub product_none : None ≡ product_parts (to_z w128 (of_z w128 f.numerator)) (to_z w128 (of_z w128 f.denominator)) (to_z w128 (of_z w128 g.numerator)) (to_z w128 (of_z w128 g.denominator)) → frac_refuses_mul x y ≡ true
-  product_none o = formed_none (int_div x.top (pos (gcd (unsigned_abs x.top) y.bottom)) *ℤ int_div y.top (pos (gcd (unsigned_abs y.top) x.bottom))) ((x.bottom / gcd (unsigned_abs y.top) x.bottom) * (y.bottom / gcd (unsigned_abs x.top) y.bottom)) (o ∙ parts_same)
+  product_none o = formed_none (int_div x.top (pos (gcd (unsigned_abs x.top) y.bottom)) *ℤ int_div y.top (pos (gcd (unsigned_abs y.top) x.bottom))) (pos ((x.bottom / gcd (unsigned_abs y.top) x.bottom) * (y.bottom / gcd (unsigned_abs x.top) y.bottom))) (o ∙ parts_same)
 
   total_same : total_parts (to_z w128 (of_z w128 f.numerator)) (to_z w128 (of_z w128 f.denominator)) (to_z w128 (of_z w128 g.numerator)) (to_z w128 (of_z w128 g.denominator)) ≡ total_parts x.top (pos x.bottom) y.top (pos y.bottom)
   total_same = rw (numerator_is f hf x ex, denominator_is f hf x ex, numerator_is g hg y ey, denominator_is g hg y ey) refl

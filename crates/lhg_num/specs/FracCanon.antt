@@ -1,17 +1,23 @@
 -- How fractions scale a row, and that this is lawful.
 use Rattle.std.specs.Prelude.{◌≡◌, true, false, cond, List, [], ◌∷◌, map}
 use Rattle.std.proofs.Common.{refl, sym, ap, ◌∙◌}
-use Rattle.lhg_math.specs.Number.{Number, mul, lt, nought, unit, inverse}
+use Rattle.lhg_math.specs.Number.{Number, mul, lt, nought, unit, inverse, quot}
 use Rattle.lhg_math.specs.NumberRing.{mul-nought, mul_comm, mul_assoc, mul-unit}
 use Rattle.lhg_math.specs.NumberOrder.{lt-mul, nought_unit, mul_positive}
-use Rattle.lhg_math.specs.Quotients.{mul-inverse, abs_pos_of_lt}
+use Rattle.lhg_math.specs.Quotients.{mul-inverse, abs_pos_of_lt, quot-is}
 use Rattle.lhg_num.specs.Arithmetic.{IsMultiple, multiple_self}
 use Rattle.lhg_math.specs.Signs.{size_of, is_nought, lead}
 use Rattle.lhg_math.specs.SignLaws.{nought_is, size_above, is_nought-scaled, size_of-scaled}
 use Rattle.lhg_math.specs.Tests.{by_bool}
 
+-- each entry divided by the size of the first entry that is not 0; a row of zeros stays
 abbrev pub canon_frac : List Number → List Number
-canon_frac row = cond (is_nought (lead row)) row (map (λ x. mul (inverse (size_of (lead row))) x) row)
+canon_frac row = cond (is_nought (lead row)) row (map (λ x. quot x (size_of (lead row))) row)
+
+-- to divide by a number is to multiply by its inverse
+map-quot : (s : Number) (xs : List Number) → map (λ x. quot x s) xs ≡ map (λ x. mul (inverse s) x) xs
+map-quot s [] = refl
+map-quot s (x ∷ xs) = ap (λ y. y ∷ map (λ z. quot z s) xs) (quot-is x s ∙ mul_comm x (inverse s)) ∙ ap (λ ys. mul (inverse s) x ∷ ys) (map-quot s xs)
 
 inverse_positive : (x : Number) → lt nought x ≡ true → lt nought (inverse x) ≡ true
 inverse_positive x h = sym (lt-mul x nought (inverse x) h) ∙ ap (λ w. lt w (mul x (inverse x))) (mul-nought x) ∙ ap (λ w. lt nought w) (mul-inverse x (abs_pos_of_lt x h)) ∙ nought_unit
@@ -20,7 +26,7 @@ pub canon_multiple : (row : List Number) → IsMultiple row (canon_frac row)
 canon_multiple row =
     by_bool (is_nought (lead row))
     (λ e. rw e (multiple_self row))
-    (λ e. record { factor = inverse (size_of (lead row)); positive = inverse_positive _ (size_above (lead row) e); entries = rw e refl })
+    (λ e. record { factor = inverse (size_of (lead row)); positive = inverse_positive _ (size_above (lead row) e); entries = rw e (map-quot (size_of (lead row)) row) })
 
 lead_scaled : (k : Number) (xs : List Number) → lt nought k ≡ true → lead (map (λ x. mul k x) xs) ≡ mul k (lead xs)
 lead_scaled k [] h = sym (mul-nought k)
@@ -44,15 +50,23 @@ inverse_scaled k s h p =
     let three : mul (mul a k) s ≡ unit = mul_assoc a k s ∙ mul_comm a (mul k s) ∙ one in
     sym (mul-unit (mul a k)) ∙ ap (λ w. mul (mul a k) w) (sym two) ∙ sym (mul_assoc (mul a k) s (inverse s)) ∙ ap (λ w. mul w (inverse s)) three ∙ mul_comm unit (inverse s) ∙ mul-unit (inverse s)
 
+-- a factor of the entries and of the divisor falls away
 map_scaled : (a b k : Number) (xs : List Number) → mul a k ≡ b → map (λ x. mul a x) (map (λ x. mul k x) xs) ≡ map (λ x. mul b x) xs
 map_scaled a b k [] e = refl
 map_scaled a b k (x ∷ xs) e = ap (λ y. y ∷ map (λ z. mul a z) (map (λ z. mul k z) xs)) (sym (mul_assoc a k x) ∙ ap (λ w. mul w x) e) ∙ ap (λ ys. mul b x ∷ ys) (map_scaled a b k xs e)
 
+quot_scaled : (k s : Number) (xs : List Number) → lt nought k ≡ true → lt nought s ≡ true → map (λ x. quot x (mul k s)) (map (λ x. mul k x) xs) ≡ map (λ x. quot x s) xs
+quot_scaled k s xs h p = map-quot (mul k s) (map (λ x. mul k x) xs) ∙ map_scaled (inverse (mul k s)) (inverse s) k xs (inverse_scaled k s h p) ∙ sym (map-quot s xs)
+
+-- all positive multiples of a row are scaled to the same row
 pub canon_same : (old new : List Number) → IsMultiple old new → canon_frac new ≡ canon_frac old
 canon_same old new m =
     let k = m.factor in
-    ap canon_frac m.entries ∙ ap (λ b. cond b (map (λ x. mul k x) old) (map (λ x. mul (inverse (size_of (lead (map (λ y. mul k y) old)))) x) (map (λ x. mul k x) old))) (ap is_nought (lead_scaled k old m.positive) ∙ is_nought-scaled k (lead old) m.positive)
+    let s = size_of (lead old) in
+    let row = map (λ x. mul k x) old in
+    let size : size_of (lead row) ≡ mul k s = ap size_of (lead_scaled k old m.positive) ∙ size_of-scaled k (lead old) m.positive in
+    let zero : is_nought (lead row) ≡ is_nought (lead old) = ap is_nought (lead_scaled k old m.positive) ∙ is_nought-scaled k (lead old) m.positive in
+    ap canon_frac m.entries ∙ ap (λ b. cond b row (map (λ x. quot x (size_of (lead row))) row)) zero
     ∙ by_bool (is_nought (lead old))
     (λ e. rw e (all_nought k old e))
-    (λ e. rw e (map_scaled (inverse (size_of (lead (map (λ y. mul k y) old)))) (inverse (size_of (lead old))) k old
-    (ap (λ w. mul (inverse w) k) (ap size_of (lead_scaled k old m.positive) ∙ size_of-scaled k (lead old) m.positive) ∙ inverse_scaled k (size_of (lead old)) m.positive (size_above (lead old) e))))
+    (λ e. rw e (ap (λ w. map (λ x. quot x w) row) size ∙ quot_scaled k s old m.positive (size_above (lead old) e)))

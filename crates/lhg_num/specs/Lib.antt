@@ -1,4 +1,5 @@
 pub mod Arithmetic
+pub mod Dividing
 pub mod FracArithmetic
 pub mod FracCanon
 pub mod FracModel

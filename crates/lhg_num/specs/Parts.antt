@@ -2,6 +2,7 @@
 use Rattle.std.specs.Prelude.{ℤ, pos, ◌+ℤ◌, ◌*ℤ◌, Option, Some, None}
 use Rattle.std.specs.Int.RustNames.{unsigned_abs, int_div}
 use Rattle.lhg_math.specs.Gcd.{gcd}
+use Rattle.lhg_math.specs.Number.{flip_sign}
 use Rattle.lhg_num.specs.Limits.{formed}
 
 abbrev pub both_of : Option ℤ → Option ℤ → Option (ℤ × ℤ)
@@ -30,3 +31,15 @@ abbrev pub total_parts : ℤ → ℤ → ℤ → ℤ → Option (ℤ × ℤ)
 total_parts a b c d =
     let g = pos (gcd (unsigned_abs b) (unsigned_abs d)) in
     after_products b d g (both_of (formed (a *ℤ int_div d g)) (formed (c *ℤ int_div b g)))
+
+abbrev pub crossed_parts : ℤ → ℤ → ℤ → ℤ → Option (ℤ × ℤ)
+crossed_parts a b c d =
+    let g = pos (gcd (unsigned_abs b) (unsigned_abs d)) in
+    both_of (formed (a *ℤ int_div d g)) (formed (c *ℤ int_div b g))
+
+abbrev pub lowest_parts : ℤ → ℤ → ℤ × ℤ
+lowest_parts n d =
+    let t = flip_sign d n in
+    let b = pos (unsigned_abs d) in
+    let g = pos (gcd (unsigned_abs t) (unsigned_abs d)) in
+    (int_div t g, int_div b g)

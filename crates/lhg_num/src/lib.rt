@@ -6,6 +6,7 @@ pub mod laws;
 mod number_type;
 mod parts;
 mod refusals;
+mod scaling;
 
 pub use fraction::Frac;
 pub use number_type::Scalar;

@@ -4,9 +4,10 @@ ghost use Rattle.std.specs.Prelude.{◌&&◌};
 ghost use Rattle.std.specs.Int.RustNames.{int_div};
 ghost use Rattle.std.specs.Ordering.{int_eq};
 ghost use Rattle.lhg_math.specs.Gcd as spec;
+ghost use Rattle.lhg_math.specs.Number.{flip_sign};
 ghost use Rattle.lhg_num.specs.Limits.{formed};
 ghost use Rattle.lhg_num.specs.Stored.{IsStored};
-ghost use Rattle.lhg_num.specs.Parts.{product_parts, both_of, total_parts, reduced_parts};
+ghost use Rattle.lhg_num.specs.Parts.{product_parts, both_of, total_parts, reduced_parts, crossed_parts, lowest_parts};
 
 pub(crate) fn gcd(a: u128, b: u128) -> u128
     ensures { result ≡ spec.gcd a b }
@@ -108,4 +109,35 @@ pub(crate) fn same(a: i128, b: i128, c: i128, d: i128) -> bool
     ensures { result ≡ (int_eq a c && int_eq b d) }
 {
     a == c && b == d
+}
+
+// The two sides of the comparison of a / b and c / d.
+pub(crate) fn crossed(a: i128, b: i128, c: i128, d: i128) -> Option<(i128, i128)>
+    requires left { pos 0 <ℤ b }
+    requires right { pos 0 <ℤ d }
+    ensures { result ≡ crossed_parts a b c d }
+{
+    let g = common(b, d);
+    both(times(a, part(d, g)), times(c, part(b, g)))
+}
+
+// The parts of n / d with the sign moved to the numerator.
+pub(crate) fn upright(n: i128, d: i128) -> (i128, i128)
+    requires top { unsigned_abs n < 2 ^ 127 }
+    requires bottom { unsigned_abs d < 2 ^ 127 }
+    ensures { result ≡ (flip_sign d n, pos (unsigned_abs d)) }
+{
+    if d < 0 { (-n, -d) } else { (n, d) }
+}
+
+// The parts of n / d in lowest terms.
+pub(crate) fn lowest(n: i128, d: i128) -> (i128, i128)
+    requires some { 0 < unsigned_abs d }
+    requires top { unsigned_abs n < 2 ^ 127 }
+    requires bottom { unsigned_abs d < 2 ^ 127 }
+    ensures { result ≡ lowest_parts n d }
+{
+    let (top, bottom) = upright(n, d);
+    let g = common(top, bottom);
+    (part(top, g), part(bottom, g))
 }

@@ -1,0 +1,7 @@
+use Rattle.std.proofs.Common.{ap, ◌∙◌}
+use Rattle.std.specs.Ordering.{is_eq}
+use Rattle.lhg_math.specs.SignLaws.{is_eq-sign_of}
+use Rattle.lhg_num.proofs.fraction.FracScalar.is_zero.Goals as goal
+
+pub returns : goal.returns
+returns c = c.is_eq.ensures ∙ ap is_eq c.sign.ensures ∙ is_eq-sign_of c.args.self.now
