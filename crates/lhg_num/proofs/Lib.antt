@@ -7,3 +7,4 @@ pub mod Made
 pub mod Middles
 pub mod ScaledRows
 pub mod Orders
+pub mod Rows

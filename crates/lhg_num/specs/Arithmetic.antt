@@ -43,6 +43,11 @@ scaled a row = cond (all_of a.holds row) (a.canon_of row) row
 pub scaled-held : (a : Arithmetic) (row : List Number) → all_of a.holds row ≡ true → scaled a row ≡ a.canon_of row
 scaled-held a row h = rw h refl
 
+-- the meanings of values are numbers that the type holds, so a row of values is held
+pub held_row : {A : Type 0} (a : Arithmetic) (meaning : A → Number) → ((x : A) → a.holds (meaning x) ≡ true) → (xs : List A) → all_of a.holds (map meaning xs) ≡ true
+held_row a meaning h [] = refl
+held_row a meaning h (x ∷ xs) = rw (h x, held_row a meaning h xs) refl
+
 -- the factor 1 leaves a row as it is
 pub map-unit : (xs : List Number) → xs ≡ map (λ x. mul unit x) xs
 map-unit [] = refl

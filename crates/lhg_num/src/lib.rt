@@ -7,6 +7,8 @@ mod number_type;
 mod parts;
 mod refusals;
 mod scaling;
+#[cfg(test)]
+mod tests;
 
 pub use fraction::Frac;
 pub use number_type::Scalar;
