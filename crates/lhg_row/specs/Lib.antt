@@ -5,6 +5,7 @@ pub mod CheckPoint
 pub mod Convex
 pub mod Decisions
 pub mod Enclose
+pub mod Example
 pub mod Flow
 pub mod Join
 pub mod Kinds

@@ -1,6 +1,7 @@
 // What callers may rest on: the laws of rows, segments, flows, plays and check points.
 ghost use Rattle.std.specs.Coded.{Coded};
 ghost use Rattle.lhg_row.specs.Row.{PlainRow, PlainPoint};
+ghost use Rattle.lhg_row.specs.Example.{IntervalFacts, EmptyFacts, MotionFacts};
 ghost use Rattle.lhg_row.specs.Laws.{TruthLaws, PlaceLaws, TurnLaws, ConvexLaws, FlowLaws, SpeedLaws, PlayLaws, CheckPointLaws, FiniteLaw};
 
 /// Whether a row holds at a point, and whether a point is in a piece or in one of some pieces, is decidable.
@@ -37,4 +38,11 @@ pub fn law_check_points()
 pub fn law_code()
     ensures point { Coded PlainPoint }
     ensures row { Coded PlainRow }
+{}
+
+/// What the definitions say of small known cases.
+pub fn law_example()
+    ensures interval { IntervalFacts }
+    ensures empty { EmptyFacts }
+    ensures motion { MotionFacts }
 {}
