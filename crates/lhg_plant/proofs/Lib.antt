@@ -1,4 +1,5 @@
 pub mod Decided
+pub mod Examples
 pub mod GuardTruth
 pub mod LogDecided
 pub mod Losses

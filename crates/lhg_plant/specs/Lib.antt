@@ -1,5 +1,6 @@
 pub mod Controller
 pub mod Escape
+pub mod Example
 pub mod Laws
 pub mod Legal
 pub mod Log

@@ -7,6 +7,7 @@ ghost use Rattle.lhg_plant.specs.Round.{InRound};
 ghost use Rattle.lhg_plant.specs.Still.{IsStill, HasNoSwitch};
 ghost use Rattle.lhg_plant.specs.Controller.{PlainController};
 ghost use Rattle.lhg_plant.specs.Loss.{PlainLoss};
+ghost use Rattle.lhg_plant.specs.Example.{ThermostatFacts, TankFacts};
 ghost use Rattle.lhg_plant.specs.Laws.{MemberLaws, MonotoneLaws, RoundLaws, ValidLaws, RunLaws, LossLaws, SolvedLaw, StillLaws};
 
 use crate::sets::StateSet;
@@ -68,3 +69,9 @@ pub fn law_still_sets<T: StateSet, U: StateSet>(set: &T, past: &U)
     let _ = set;
     let _ = past;
 }
+
+/// What the definitions say of a thermostat, and of a tank in which nothing moves.
+pub fn law_example()
+    ensures thermostat { ThermostatFacts }
+    ensures tank { TankFacts }
+{}

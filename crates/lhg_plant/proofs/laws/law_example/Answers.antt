@@ -1,0 +1,8 @@
+use Rattle.lhg_plant.proofs.Examples.{heater, level}
+use Rattle.lhg_plant.proofs.laws.law_example.Goals as goal
+
+pub returns-clause-thermostat : goal.returns-clause-thermostat
+returns-clause-thermostat c = heater
+
+pub returns-clause-tank : goal.returns-clause-tank
+returns-clause-tank c = level
