@@ -15,4 +15,5 @@ pub mod Solution
 pub mod Sound
 pub mod State
 pub mod Still
+pub mod Views
 pub mod Word

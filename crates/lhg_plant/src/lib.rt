@@ -5,7 +5,9 @@ pub mod laws;
 mod names;
 mod plants;
 mod sets;
+mod states;
 
 pub use names::Name;
-pub use plants::Side;
+pub use plants::{Location, Plant, Side, Switch};
 pub use sets::StateSet;
+pub use states::State;
