@@ -6,6 +6,8 @@ mod names;
 mod plants;
 mod sets;
 mod states;
+#[cfg(test)]
+mod tests;
 
 pub use names::Name;
 pub use plants::{Location, Plant, Side, Switch};
