@@ -1,0 +1,6 @@
+use Rattle.lhg_row.specs.ValueLaws.{truth-value}
+use Rattle.lhg_row.specs.MoveLaws.{negated-holds, shift-holds, renamed-holds}
+use Rattle.lhg_row.proofs.calculus_laws.law_rows.Goals as goal
+
+pub returns : goal.returns
+returns c = record { truth = truth-value; negate = negated-holds; shift = shift-holds; rename = renamed-holds }

@@ -1,0 +1,39 @@
+-- Which laws do the operations on rows and on lists of rows obey?
+use Rattle.std.specs.Prelude.{◌≡◌, ◌≢◌, ℕ, suc, ◌<◌, not, List, length, All, AllPairs}
+use Rattle.lhg_math.specs.Number.{Number}
+use Rattle.lhg_num.specs.Arithmetic.{Arithmetic, IsLawful}
+use Rattle.lhg_row.specs.Row.{PlainRow, PlainPoint, holds_at}
+use Rattle.lhg_row.specs.Piece.{PlainPiece, in_piece}
+use Rattle.lhg_row.specs.Values.{truth, shift}
+use Rattle.lhg_row.specs.Moves.{negated, moved, renamed, picked}
+use Rattle.lhg_row.specs.Trim.{trim}
+use Rattle.lhg_row.specs.Width.{AllWide, IsTidy}
+use Rattle.lhg_row.specs.Eliminate.{eliminate, is_empty}
+use Rattle.lhg_row.specs.HasValue.{IsElimination, IsEmptiness}
+use Rattle.lhg_row.specs.NothingLaws.{eliminated}
+
+-- the truth that is formed is the truth, and each operation on one row gives the points that it should
+pub record RowLaws : Type 0 where
+  pub truth : (a : Arithmetic) (r : PlainRow) (x : PlainPoint) → (truth a r x).value ≡ holds_at r x
+  pub negate : (r : PlainRow) (x : PlainPoint) → holds_at (negated r) x ≡ not (holds_at r x)
+  pub shift : (a : Arithmetic) (r : PlainRow) (by : PlainPoint) (m : Number) (x : PlainPoint) → length x ≡ length by
+      → holds_at (shift a r by m).value x ≡ holds_at r (moved x m by)
+  pub rename : (places : List ℕ) (n : ℕ) (r : PlainRow) (x : PlainPoint) → length places ≡ length r.coefs → All (λ p. p < n) places → AllPairs (λ p q. p ≢ q) places
+      → length x ≡ n → holds_at (renamed places n r) x ≡ holds_at r (picked places x)
+
+-- trim keeps the points and the width, and leaves a tidy list
+pub record TrimLaws : Type 0 where
+  pub points : (a : Arithmetic) (rows : PlainPiece) (x : PlainPoint) → IsLawful a → in_piece (trim a rows).value x ≡ in_piece rows x
+  pub wide : (a : Arithmetic) (n : ℕ) (rows : PlainPiece) → IsLawful a → AllWide n rows → AllWide n (trim a rows).value
+  pub tidy : (a : Arithmetic) (rows : PlainPiece) → IsTidy (trim a rows).value
+
+-- eliminate is exact and leaves a tidy list over one variable less; its first step is no exception
+pub record EliminateLaws : Type 0 where
+  pub exact : (a : Arithmetic) (k n : ℕ) (rows : PlainPiece) → IsLawful a → k < n → AllWide n rows → IsElimination n k rows (eliminate a k rows).value
+  pub wide : (a : Arithmetic) (k m : ℕ) (rows : PlainPiece) → IsLawful a → k < suc m → AllWide (suc m) rows → AllWide m (eliminate a k rows).value
+  pub tidy : (a : Arithmetic) (k m : ℕ) (rows : PlainPiece) → k < suc m → AllWide (suc m) rows → IsTidy (eliminate a k rows).value
+  pub nothing : (a : Arithmetic) (k m : ℕ) (rows : PlainPiece) → k < suc m → AllWide (suc m) rows → eliminate a k rows ≡ eliminated a k rows
+
+-- is_empty is exact on tidy lists
+abbrev pub EmptyLaw : Type 0
+EmptyLaw = (a : Arithmetic) (n : ℕ) (rows : PlainPiece) → IsLawful a → AllWide n rows → IsTidy rows → IsEmptiness n rows (is_empty a n rows).value

@@ -1,0 +1,14 @@
+-- How many coefficients have the rows of a list, and which lists may trim leave?
+use Rattle.std.specs.Prelude.{◌≡◌, ◌⊎◌, ℕ, true, length}
+use Rattle.lhg_math.specs.Tests.{Every}
+use Rattle.lhg_row.specs.Piece.{PlainPiece}
+use Rattle.lhg_row.specs.Members.{AllOf}
+use Rattle.lhg_row.specs.Constant.{varies, is_nothing}
+
+-- each row has n coefficients
+abbrev pub AllWide : ℕ → PlainPiece → Type 0
+AllWide n rows = AllOf (λ r. length r.coefs ≡ n) rows
+
+-- the one row 0 < 0, or rows of which each has a variable
+abbrev pub IsTidy : PlainPiece → Type 0
+IsTidy rows = (is_nothing rows ≡ true) ⊎ Every varies rows

@@ -1,0 +1,27 @@
+// What callers may rest on: the laws of the calculus of rows, and known rows.
+ghost use Rattle.lhg_row.specs.CalculusLaws.{RowLaws, TrimLaws, EliminateLaws, EmptyLaw};
+ghost use Rattle.lhg_row.specs.Worked.{TrimRows, EliminateRows, EmptyRows, MarkRows};
+
+/// Where negated, shifted and renamed rows hold.
+pub fn law_rows()
+    ensures { RowLaws }
+{}
+
+/// Trimmed lists have the points of the lists that they come from.
+pub fn law_trim()
+    ensures { TrimLaws }
+{}
+
+/// Elimination of one variable, and emptiness, are exact.
+pub fn law_eliminate()
+    ensures eliminate { EliminateLaws }
+    ensures is_empty { EmptyLaw }
+{}
+
+/// Known rows, by computation.
+pub fn law_worked()
+    ensures trim { TrimRows }
+    ensures eliminate { EliminateRows }
+    ensures empty { EmptyRows }
+    ensures marks { MarkRows }
+{}
