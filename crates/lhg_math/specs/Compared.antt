@@ -1,10 +1,8 @@
 -- Numbers are compared by their numerators and by numerators brought to one denominator.
 use Rattle.std.proofs.Common.{◌≡◌, ℕ, ◌<◌, ◌*◌, ◌/◌, refl, ap, sym, ◌∙◌}
 use Rattle.std.proofs.Math.IntN.{ℤ, pos, ◌*ℤ◌, zero-*ℤ}
-use Rattle.std.specs.Prelude.{cond}
 use Rattle.std.specs.Int.RustNames.{int_lt}
 use Rattle.std.specs.Ordering.{int_cmp}
-use Rattle.std.specs.declared.cmp.Ordering.TheVariants.{Less, Equal, Greater}
 use Rattle.lhg_math.specs.Gcd.{gcd}
 use Rattle.lhg_math.specs.GcdLemmas.{gcd-left, gcd-right, gcd-pos}
 use Rattle.lhg_math.specs.Integers.{int_lt-mul, mul_assoc_ℤ}

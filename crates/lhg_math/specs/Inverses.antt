@@ -1,14 +1,13 @@
 -- The parts of an inverse, of a whole number and of a ratio.
-use Rattle.std.proofs.Common.{◌≡◌, ◌≢◌, ℕ, zero, suc, ◌<◌, ◌*◌, ◌/◌, arith, refl, ap, sym, ◌∙◌, subst, false, true}
+use Rattle.std.proofs.Common.{◌≡◌, ℕ, zero, suc, ◌<◌, ◌*◌, ◌/◌, arith, refl, ap, ◌∙◌}
 use Rattle.std.proofs.Math.IntN.{ℤ, pos, negsuc, neg_ℤ, ◌*ℤ◌}
 use Rattle.std.specs.Int.RustNames.{unsigned_abs, int_div}
 use Rattle.lhg_math.specs.Gcd.{gcd}
-use Rattle.lhg_math.specs.Lowest.{IsLowest}
 use Rattle.lhg_math.specs.GcdLemmas.{gcd_comm, gcd-one}
 use Rattle.lhg_math.specs.Integers.{mul-neg_ℤ}
 use Rattle.lhg_math.specs.Reduce.{abs-neg}
 use Rattle.lhg_math.specs.Number.{Number, ratio, ratio_suc, whole, mul, inverse, quot, flip_sign, half}
-use Rattle.lhg_math.specs.Represents.{rep_whole, rep_ratio, rep_mul, rep_eq, ratio_parts, number_ext}
+use Rattle.lhg_math.specs.Represents.{rep_whole, rep_ratio, rep_mul, rep_eq, ratio_parts}
 use Rattle.lhg_math.specs.NumberRing.{mul_one_ℤ}
 
 -- the sign moves no size
@@ -40,6 +39,7 @@ unfolding ratio ratio_suc
 ratio_top n zero h = absurd (omega arith)
 ratio_top n (suc d) h = refl
 
+-- the same for the denominator
 pub ratio_bottom : (n : ℤ) (d : ℕ) → 0 < d → (ratio n d).bottom ≡ d / gcd (unsigned_abs n) d
 unfolding ratio ratio_suc
 ratio_bottom n zero h = absurd (omega arith)

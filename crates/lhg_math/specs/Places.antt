@@ -19,36 +19,46 @@ pub record IsInner (p : Number) : Type 0 where
   pub above : lt nought p ≡ true
   pub below : lt p unit ≡ true
 
+-- an inner place is a place
 pub inner_place : (p : Number) → IsInner p → IsPlace p
 inner_place p h = record { from = lt_asym nought p h.above; upto = lt_asym p unit h.below }
 
+-- 0 is a place
 pub start_place : IsPlace nought
 start_place = record { from = lt_irrefl nought; upto = lt_asym nought unit nought_unit }
 
+-- 1 is a place
 pub end_place : IsPlace unit
 end_place = record { from = lt_asym nought unit nought_unit; upto = lt_irrefl unit }
 
+-- 1/2 is an inner place
 pub half_inner : IsInner half
 half_inner = record { above = half_positive; below = half_below }
 
+-- what is left of the way is not negative
 pub rest_from : (p : Number) → IsPlace p → lt (add unit (neg p)) nought ≡ false
 rest_from p h = difference-lt p unit ∙ h.upto
 
+-- what is left of the way from an inner place is positive
 pub rest_above : (p : Number) → IsInner p → lt nought (add unit (neg p)) ≡ true
 rest_above p h = lt-difference p unit ∙ h.below
 
+-- between ends that are not positive nothing is
 pub nonpos_at : (a b p : Number) → lt nought a ≡ false → lt nought b ≡ false → IsPlace p → lt nought (interpolate a b p) ≡ false
 nonpos_at a b p h k i =
     ap (λ w. lt nought w) (interpolate_mix a b p) ∙ add_nonpos _ _ (mul_nonpos _ a (rest_from p i) h) (mul_nonpos p b i.from k)
 
+-- from a negative start to an end that is not positive, an inner place is negative
 pub negative_left : (a b p : Number) → lt a nought ≡ true → lt nought b ≡ false → IsInner p → lt (interpolate a b p) nought ≡ true
 negative_left a b p h k i =
     ap (λ w. lt w nought) (interpolate_mix a b p) ∙ add_negative _ _ (mul_negative _ a (rest_above p i) h) (mul_nonpos p b (inner_place p i).from k)
 
+-- the same for a negative end
 pub negative_right : (a b p : Number) → lt nought a ≡ false → lt b nought ≡ true → IsInner p → lt (interpolate a b p) nought ≡ true
 negative_right a b p h k i =
     ap (λ w. lt w nought) (interpolate_mix a b p ∙ add_comm _ _) ∙ add_negative _ _ (mul_negative p b i.above k) (mul_nonpos _ a (rest_from p (inner_place p i)) h)
 
+-- between negative ends each place is negative
 pub negative_at : (a b p : Number) → lt a nought ≡ true → lt b nought ≡ true → IsPlace p → lt (interpolate a b p) nought ≡ true
 negative_at a b p h k i =
     by_bool (lt nought p)
@@ -72,6 +82,7 @@ pub record Crossing (a b : Number) : Type 0 where
   pub inner : IsInner at
   pub level : interpolate a b at ≡ nought
 
+-- on the way from a negative to a positive number some place is 0
 pub crossing_up : (a b : Number) → lt a nought ≡ true → lt nought b ≡ true → Crossing a b
 crossing_up a b h k =
     let rises : lt a b ≡ true = lt_trans a nought b h k in
@@ -91,14 +102,17 @@ crossing_up a b h k =
     times : (r d : Number) → mul r d ≡ mul d r
     times r d = simp sums
 
+-- the sign of both ends comes out
 pub interpolate-neg : (a b p : Number) → interpolate (neg a) (neg b) p ≡ neg (interpolate a b p)
 interpolate-neg a b p =
     let s : add (neg a) (mul p (add (neg b) (neg (neg a)))) ≡ neg (add a (mul p (add b (neg a)))) = simp sums in
     interpolate_is (neg a) (neg b) p ∙ s ∙ ap neg (sym (interpolate_is a b p))
 
+-- a negative is negative where the number is positive
 pub neg-lt_nought : (c : Number) → lt (neg c) nought ≡ lt nought c
 neg-lt_nought c = ap (λ w. lt (neg c) w) (sym neg_nought) ∙ lt-neg c nought
 
+-- on the way from a positive to a negative number some place is 0
 pub crossing_down : (a b : Number) → lt nought a ≡ true → lt b nought ≡ true → Crossing a b
 crossing_down a b h k =
     let c = crossing_up (neg a) (neg b) (neg-lt_nought a ∙ h) (lt-nought_neg b ∙ k) in

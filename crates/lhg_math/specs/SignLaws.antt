@@ -1,13 +1,13 @@
 -- Laws of signs, sizes and equality of numbers.
-use Rattle.std.specs.Prelude.{◌≡◌, true, false, not, cond, ◌&&◌, refl}
+use Rattle.std.specs.Prelude.{◌≡◌, true, false, cond, refl}
 use Rattle.std.specs.Bool.{Decides}
 use Rattle.std.specs.Ordering.{is_eq}
 use Rattle.std.specs.Cmp.{IsEquivalence}
 use Rattle.std.specs.Prelude.{◌<◌}
 use Rattle.std.specs.Int.RustNames.{unsigned_abs}
 use Rattle.std.proofs.Common.{sym, ap, ◌∙◌, subst}
-use Rattle.lhg_math.specs.Number.{Number, add, mul, neg, lt, nought, unit, sign_of}
-use Rattle.lhg_math.specs.NumberRing.{mul-nought, mul-neg, neg_nought}
+use Rattle.lhg_math.specs.Number.{Number, mul, neg, lt, nought, sign_of}
+use Rattle.lhg_math.specs.NumberRing.{mul-nought, mul-neg}
 use Rattle.lhg_math.specs.NumberOrder.{lt-mul, lt-nought_neg, lt_irrefl, lt_antisymm, lt_asym}
 use Rattle.lhg_math.specs.Quotients.{abs_pos_of_lt, abs_pos_of_gt}
 use Rattle.lhg_math.specs.Signs.{size_of, is_nought, same_number}
@@ -46,8 +46,13 @@ same_number_equivalence = record {
 pub nought_is : (x : Number) → is_nought x ≡ true → x ≡ nought
 nought_is x h = same_is x nought h
 
+-- 0 passes the test for 0
 pub is_nought-nought : is_nought nought ≡ true
 is_nought-nought = same_number-self nought
+
+-- the test says exactly which number is 0
+pub Decides-is_nought : (x : Number) → Decides (is_nought x) (x ≡ nought)
+Decides-is_nought x = (nought_is x, λ e. ap is_nought e ∙ is_nought-nought)
 
 -- the order against 0 is equality exactly for 0
 pub is_eq-sign_of : (x : Number) → is_eq (sign_of x) ≡ is_nought x
@@ -77,9 +82,11 @@ size_from x =
 pub lt-nought_scaled : (k x : Number) → lt nought k ≡ true → lt (mul k x) nought ≡ lt x nought
 lt-nought_scaled k x h = ap (λ w. lt (mul k x) w) (sym (mul-nought k)) ∙ lt-mul k x nought h
 
+-- the same for positive numbers
 pub nought_lt-scaled : (k x : Number) → lt nought k ≡ true → lt nought (mul k x) ≡ lt nought x
 nought_lt-scaled k x h = ap (λ w. lt w (mul k x)) (sym (mul-nought k)) ∙ lt-mul k nought x h
 
+-- a positive factor keeps the test for 0
 pub is_nought-scaled : (k x : Number) → lt nought k ≡ true → is_nought (mul k x) ≡ is_nought x
 is_nought-scaled k x h = rw (lt-nought_scaled k x h, nought_lt-scaled k x h) refl
 

@@ -27,16 +27,18 @@ abbrev pub after_products : ℤ → ℤ → ℤ → Option (ℤ × ℤ) → Opti
 after_products b d g None = None
 after_products b d g (Some pq) = reduced_parts pq.0 pq.1 b d g
 
+-- the numerators of a sum or of a comparison, over the least common denominator
+abbrev pub sides_of : ℤ → ℤ → ℤ → ℤ → ℤ → Option (ℤ × ℤ)
+sides_of a b c d g = both_of (formed (a *ℤ int_div d g)) (formed (c *ℤ int_div b g))
+
 abbrev pub total_parts : ℤ → ℤ → ℤ → ℤ → Option (ℤ × ℤ)
-total_parts a b c d =
-    let g = pos (gcd (unsigned_abs b) (unsigned_abs d)) in
-    after_products b d g (both_of (formed (a *ℤ int_div d g)) (formed (c *ℤ int_div b g)))
+total_parts a b c d = let g = pos (gcd (unsigned_abs b) (unsigned_abs d)) in after_products b d g (sides_of a b c d g)
 
+-- what a comparison forms
 abbrev pub crossed_parts : ℤ → ℤ → ℤ → ℤ → Option (ℤ × ℤ)
-crossed_parts a b c d =
-    let g = pos (gcd (unsigned_abs b) (unsigned_abs d)) in
-    both_of (formed (a *ℤ int_div d g)) (formed (c *ℤ int_div b g))
+crossed_parts a b c d = sides_of a b c d (pos (gcd (unsigned_abs b) (unsigned_abs d)))
 
+-- n / d in lowest terms, with the sign in the numerator
 abbrev pub lowest_parts : ℤ → ℤ → ℤ × ℤ
 lowest_parts n d =
     let t = flip_sign d n in

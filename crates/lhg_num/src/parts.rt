@@ -7,7 +7,7 @@ ghost use Rattle.lhg_math.specs.Gcd as spec;
 ghost use Rattle.lhg_math.specs.Number.{flip_sign};
 ghost use Rattle.lhg_num.specs.Limits.{formed};
 ghost use Rattle.lhg_num.specs.Stored.{IsStored};
-ghost use Rattle.lhg_num.specs.Parts.{product_parts, both_of, total_parts, reduced_parts, crossed_parts, lowest_parts};
+ghost use Rattle.lhg_num.specs.Parts.{product_parts, both_of, sides_of, total_parts, reduced_parts, crossed_parts, lowest_parts};
 
 pub(crate) fn gcd(a: u128, b: u128) -> u128
     ensures { result ≡ spec.gcd a b }
@@ -78,6 +78,14 @@ fn both(top: Option<i128>, bottom: Option<i128>) -> Option<(i128, i128)>
     }
 }
 
+// The numerators of a / b and c / d over their least common denominator.
+fn sides(a: i128, b: i128, c: i128, d: i128, g: i128) -> Option<(i128, i128)>
+    requires { pos 0 <ℤ g }
+    ensures { result ≡ sides_of a b c d g }
+{
+    both(times(a, part(d, g)), times(c, part(b, g)))
+}
+
 // The numerator and the denominator of the sum of a / b and c / d.
 pub(crate) fn total(a: i128, b: i128, c: i128, d: i128) -> Option<(i128, i128)>
     requires left { pos 0 <ℤ b }
@@ -85,7 +93,7 @@ pub(crate) fn total(a: i128, b: i128, c: i128, d: i128) -> Option<(i128, i128)>
     ensures { result ≡ total_parts a b c d }
 {
     let g = common(b, d);
-    match both(times(a, part(d, g)), times(c, part(b, g))) {
+    match sides(a, b, c, d, g) {
         Some((p, q)) => reduced(p, q, b, d, g),
         None => None,
     }
@@ -117,8 +125,7 @@ pub(crate) fn crossed(a: i128, b: i128, c: i128, d: i128) -> Option<(i128, i128)
     requires right { pos 0 <ℤ d }
     ensures { result ≡ crossed_parts a b c d }
 {
-    let g = common(b, d);
-    both(times(a, part(d, g)), times(c, part(b, g)))
+    sides(a, b, c, d, common(b, d))
 }
 
 // The parts of n / d with the sign moved to the numerator.
