@@ -1,5 +1,5 @@
 -- For a valid controller a log is legal, or has a first illegal entry.
-use Rattle.std.proofs.Common.{◌≡◌, ◌⊎◌, inl, inr, ℕ, zero, suc, List, [], ◌∷◌, ◌++◌, Option, Some, None, slice_get, refl, subst}
+use Rattle.std.proofs.Common.{◌≡◌, ◌⊎◌, inl, inr, ℕ, zero, suc, List, [], ◌∷◌, ◌++◌, Option, Some, None, slice_get, refl, ap, subst}
 use Rattle.lhg_math.specs.Number.{Number}
 use Rattle.lhg_row.specs.Row.{PlainPoint}
 use Rattle.lhg_row.specs.Piece.{InPiece}
@@ -125,3 +125,22 @@ pub legal_or_illegal : (a : PlainPlant) (c : PlainController) (start : PlainStat
     → IsFirstIllegal a c start entries n → ⊥
 legal_or_illegal a c start entries zero log h = h log.starts
 legal_or_illegal a c start entries (suc k) log h = none_illegal a c _ entries k log.all_legal h.1
+
+-- entries have at most one first one that is not legal at its turn
+illegal_once : (a : PlainPlant) (c : PlainController) (r : RunPlace) (entries : List PlainEntry) (k l : ℕ) → IsIllegalFrom a c r entries k
+    → IsIllegalFrom a c r entries l → k ≡ l
+illegal_once a c r [] k l h i = absurd h
+illegal_once a c r (entry ∷ rest) zero zero h i = refl
+illegal_once a c r (entry ∷ rest) zero (suc l) h i = absurd (h i.0)
+illegal_once a c r (entry ∷ rest) (suc k) zero h i = absurd (i h.0)
+illegal_once a c r (entry ∷ rest) (suc k) (suc l) h i =
+    let same = does_once a c r entry h.1 i.1 h.2 i.2 h.3 i.3 in
+    ap suc (illegal_once a c i.2 rest k l (subst (λ (w : RunPlace). IsIllegalFrom a c w rest k) same.1 h.4) i.4)
+
+-- a log has at most one first illegal entry
+pub first_illegal_once : (a : PlainPlant) (c : PlainController) (start : PlainState) (entries : List PlainEntry) (m n : ℕ)
+    → IsFirstIllegal a c start entries m → IsFirstIllegal a c start entries n → m ≡ n
+first_illegal_once a c start entries zero zero h i = refl
+first_illegal_once a c start entries zero (suc n) h i = absurd (h i.0)
+first_illegal_once a c start entries (suc m) zero h i = absurd (i h.0)
+first_illegal_once a c start entries (suc m) (suc n) h i = ap suc (illegal_once a c (resting start) entries m n h.1 i.1)

@@ -13,7 +13,8 @@ use Rattle.lhg_plant.specs.State.{PlainState, IsState, moved_to}
 use Rattle.lhg_plant.specs.Legal.{LegalFlow, IsPlayFrom}
 use Rattle.lhg_plant.specs.OutBack.{Back}
 use Rattle.lhg_plant.specs.Escape.{MayPass}
-use Rattle.lhg_plant.specs.Loss.{PlainLoss, PlainCause, by_env, by_leave, by_flow, InPieceAt, InLoss, HasMove, HasFlowTo}
+use Rattle.lhg_plant.specs.Round.{InRound, IsRemovedIn}
+use Rattle.lhg_plant.specs.Loss.{PlainLoss, PlainCause, by_env, by_leave, by_flow, IsTrueLoss, InPieceAt, InLoss, HasMove, HasFlowTo}
 use Rattle.lhg_plant.specs.Sound.{HasFlowThrough, AllMayPass, Shows}
 use Rattle.lhg_plant.specs.Run.{state_along}
 use Rattle.lhg_plant.proofs.Options.{some_weaken}
@@ -52,3 +53,13 @@ shows_move a S losses loss (by_leave through into) may shows s h =
     through_flow a S (InPieceAt a loss.loc into) (λ z. IsState a z × ¬ S z) loss.loc through s h.here (may s h) shows.passed (λ z k. (k.state, shows.missed z k)) (shows.flow s h)
 shows_move a S losses loss (by_flow m through) may shows s h =
     (shows.earlier, shows.is_earlier, through_flow a S (InLoss a shows.earlier) (InLoss a shows.earlier) loss.loc through s h.here (may s h) shows.passed (λ z k. k) (shows.flow s h))
+
+-- a true record names the round in which each of its states was removed
+pub loss_named : (a : PlainPlant) (losses : List PlainLoss) (loss : PlainLoss) → IsTrueLoss a losses loss → (s : PlainState) → InLoss a loss s
+    → IsRemovedIn a loss.round s
+loss_named a losses loss h s k = record {
+  round = h.round;
+  number = h.number;
+  kept = h.true_between.kept s k;
+  gone = subst (λ (n : ℕ). ¬ InRound a n s) (sym h.number) (h.true_between.gone s k);
+}

@@ -1,6 +1,5 @@
 -- Which laws does the safety game obey, for every plant?
-use Rattle.std.specs.Prelude.{◌≡◌, ◌≤◌, ◌↔◌, ◌⊎◌, ℕ, suc, List, []}
-use Rattle.lhg_row.specs.Members.{AllOf, SomeOf}
+use Rattle.std.specs.Prelude.{◌≡◌, ◌≤◌, ◌↔◌, ◌⊎◌, ℕ, suc, List, [], Contains}
 use Rattle.lhg_row.specs.Play.{PlainMove, EachPoint}
 use Rattle.lhg_plant.specs.Plant.{PlainPlant}
 use Rattle.lhg_plant.specs.State.{PlainState, States, IsState, IsSafe}
@@ -13,7 +12,7 @@ use Rattle.lhg_plant.specs.Sound.{Shows, IsSoundLoss}
 use Rattle.lhg_plant.specs.Region.{PlainRegion, PlainGuards, InRegion, InGuard}
 use Rattle.lhg_plant.specs.Controller.{PlainController, IsValid}
 use Rattle.lhg_plant.specs.Run.{PlainEntry, PlainStep, RunPlace, IsRun}
-use Rattle.lhg_plant.specs.Solution.{IsSolution}
+use Rattle.lhg_plant.specs.Solution.{InSomeLoss, IsSolution}
 use Rattle.lhg_plant.specs.Still.{IsStill, HasNoSwitch}
 use Rattle.lhg_plant.specs.Log.{EachVisited, IsLegalLog, IsFirstIllegal, StaysInside}
 
@@ -51,7 +50,7 @@ pub record ValidLaws (a : PlainPlant) (c : PlainController) : Type 0 where
   pub settled : HasExactGuards a c → (i : ℕ) → RemovesNothing a (suc i) → ((s : PlainState) → InRegion a c.region s ↔ InRound a i s) → IsValid a c
 
 -- a valid controller has a run over each legal log, it has one alone, and the visited states of each run are in its region;
--- each log is legal or has a first illegal entry, and not both
+-- each log is legal or has a first illegal entry, not both, and one alone
 pub record RunLaws (a : PlainPlant) (c : PlainController) : Type 0 where
   pub answered : IsValid a c → (start : PlainState) (entries : List PlainEntry) → IsLegalLog a c start entries → StaysInside a c start entries
   pub inside : IsValid a c → (start : PlainState) (entries : List PlainEntry) (trace : List PlainStep) (last : RunPlace)
@@ -61,10 +60,13 @@ pub record RunLaws (a : PlainPlant) (c : PlainController) : Type 0 where
   pub decided : IsValid a c → (start : PlainState) (entries : List PlainEntry)
       → IsLegalLog a c start entries ⊎ ((n : ℕ) × IsFirstIllegal a c start entries n)
   pub exclusive : (start : PlainState) (entries : List PlainEntry) (n : ℕ) → IsLegalLog a c start entries → ¬ IsFirstIllegal a c start entries n
+  pub one_illegal : (start : PlainState) (entries : List PlainEntry) (m n : ℕ) → IsFirstIllegal a c start entries m
+      → IsFirstIllegal a c start entries n → m ≡ n
 
--- a sound record is true; and where each of its states is in Out or not in Back, its pieces alone show the move
+-- a sound record is true; a true one names the round in which each of its states was removed; and where each of its states is in Out or not in Back, its pieces alone show the move
 pub record LossLaws (a : PlainPlant) (losses : List PlainLoss) (loss : PlainLoss) : Type 0 where
   pub sound_true : IsSoundLoss a losses loss → IsTrueLoss a losses loss
+  pub named : IsTrueLoss a losses loss → (s : PlainState) → InLoss a loss s → IsRemovedIn a loss.round s
   pub shown : (i : ℕ) → ((s : PlainState) → InLoss a loss s → MayPass a (InRound a i) (Back a (InRound a i)) s)
       → Shows a (InRound a i) losses loss loss.cause
       → (s : PlainState) → InLoss a loss s → HasMove a (InRound a i) losses loss loss.cause s
@@ -73,7 +75,7 @@ pub record LossLaws (a : PlainPlant) (losses : List PlainLoss) (loss : PlainLoss
 abbrev pub SolvedLaw : Type 0
 SolvedLaw = (a : PlainPlant) (c : PlainController) (i : ℕ) (losses : List PlainLoss)
     → IsLastRound a (suc i) → ((s : PlainState) → InRegion a c.region s ↔ InRound a i s) → HasExactGuards a c
-    → ((s : PlainState) → IsSafe a s → ¬ InRegion a c.region s → SomeOf (λ loss. InLoss a loss s) losses) → AllOf (IsTrueLoss a losses) losses
+    → ((s : PlainState) → IsSafe a s → ¬ InRegion a c.region s → InSomeLoss a losses s) → ((loss : PlainLoss) → Contains losses loss → IsTrueLoss a losses loss)
     → IsSolution a c (suc i) losses
 
 -- a still plant: each play stays at its point; and where there is no switch, no region has an escape past another, each round

@@ -1,7 +1,7 @@
 use Rattle.lhg_plant.proofs.StaysInside.{run_inside}
 use Rattle.lhg_plant.proofs.RunExists.{stays}
 use Rattle.lhg_plant.proofs.RunDetermined.{run_once}
-use Rattle.lhg_plant.proofs.LogDecided.{log_decided, legal_or_illegal}
+use Rattle.lhg_plant.proofs.LogDecided.{log_decided, legal_or_illegal, first_illegal_once}
 use Rattle.lhg_plant.proofs.laws.law_run.Goals as goal
 
 pub returns : goal.returns
@@ -11,4 +11,5 @@ returns c = λ a k. record {
   determined = run_once a k;
   decided = log_decided a k;
   exclusive = legal_or_illegal a k;
+  one_illegal = first_illegal_once a k;
 }
