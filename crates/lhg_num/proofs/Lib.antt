@@ -1,10 +1,11 @@
 pub mod Commons
 pub mod Fields
+pub mod Formed
 pub mod Halted
-pub mod Results
-pub mod Same
 pub mod Made
 pub mod Middles
-pub mod ScaledRows
 pub mod Orders
+pub mod Results
 pub mod Rows
+pub mod Same
+pub mod ScaledRows

@@ -14,28 +14,7 @@ use Rattle.lhg_num.specs.Limits.{is_past, formed, frac_refuses_cmp}
 use Rattle.lhg_num.specs.Parts.{both_of, crossed_parts}
 use Rattle.lhg_num.specs.declared.fraction.Frac.TheInside.{Inside}
 use Rattle.lhg_num.proofs.Fields.{fits_abs, numerator_is, denominator_is}
-use Rattle.lhg_num.proofs.Results.{small, pair_or, formed_none}
-
--- both numbers were formed, and p and q are they, as the code reads them
-record AreBoth (P Q p q : ℤ) : Type 0 where
-  kept : (is_past P || is_past Q) ≡ false
-  left : to_z w128 (of_z w128 p) ≡ P
-  right : to_z w128 (of_z w128 q) ≡ Q
-
-both_some : (P Q p q : ℤ) → Some (p, q) ≡ both_of (formed P) (formed Q) → AreBoth P Q p q
-both_some P Q p q o =
-    by_bool (is_past P)
-    (λ h. let x : Some (p, q) ≡ None = rw h at o in cc)
-    (λ h. by_bool (is_past Q)
-    (λ k. let x : Some (p, q) ≡ None = rw (h, k) at o in cc)
-    (λ k. let x : Some (p, q) ≡ Some (P, Q) = rw (h, k) at o in
-    let y : p ≡ P = ap (λ q. (pair_or q).0) x in
-    let z : q ≡ Q = ap (λ q. (pair_or q).1) x in
-    record {
-      kept = rw (h, k) refl;
-      left = ap (λ w. to_z w128 (of_z w128 w)) y ∙ to_z-of_z w128 P (fits_abs P (small P h));
-      right = ap (λ w. to_z w128 (of_z w128 w)) z ∙ to_z-of_z w128 Q (fits_abs Q (small Q k));
-    }))
+use Rattle.lhg_num.proofs.Formed.{both_some, both_none}
 
 module _ (f g : Inside) (hf : IsStored f.numerator f.denominator) (hg : IsStored g.numerator g.denominator) (x y : Number) (ex : number_of f ≡ x) (ey : number_of g ≡ y) where
   abbrev left : ℤ
@@ -52,8 +31,8 @@ module _ (f g : Inside) (hf : IsStored f.numerator f.denominator) (hg : IsStored
       → r ≡ int_cmp (to_z w128 (of_z w128 p)) (to_z w128 (of_z w128 q)) → (frac_refuses_cmp x y ≡ false) × (r ≡ compare x y)
   compared_some p q r o e =
       let b = both_some left right p q (o ∙ crossed_same) in
-      (b.kept, e ∙ ap (λ w. int_cmp w (to_z w128 (of_z w128 q))) b.left ∙ ap (int_cmp left) b.right ∙ compare-sides x y)
+      (rw (b.first, b.second) refl, e ∙ ap (λ w. int_cmp w (to_z w128 (of_z w128 q))) b.left ∙ ap (int_cmp left) b.right ∙ compare-sides x y)
 
   -- where a side was not formed the comparison is refused
   pub compared_none : None ≡ crossed_parts (to_z w128 (of_z w128 f.numerator)) (to_z w128 (of_z w128 f.denominator)) (to_z w128 (of_z w128 g.numerator)) (to_z w128 (of_z w128 g.denominator)) → frac_refuses_cmp x y ≡ true
-  compared_none o = formed_none left right (o ∙ crossed_same)
+  compared_none o = both_none left right (o ∙ crossed_same)

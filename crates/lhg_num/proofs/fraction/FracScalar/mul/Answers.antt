@@ -1,16 +1,16 @@
-use Rattle.lhg_num.proofs.Results.{AreFormed, product_some, product_none}
-use Rattle.lhg_num.specs.Limits.{frac_refuses_mul}
 use Rattle.lhg_math.specs.Number.{mul}
+use Rattle.lhg_num.specs.Limits.{frac_refuses_mul}
+use Rattle.lhg_num.proofs.Results.{IsResult, product_some, product_none}
 use Rattle.lhg_num.proofs.fraction.FracScalar.mul.Goals as goal
 
-formed_of : (c : goal.In-Some) → AreFormed (frac_refuses_mul c.args.self.now c.args.other.now) (mul c.args.self.now c.args.other.now) c.in-Some.numerator c.in-Some.denominator
-formed_of c = product_some c.self.inside c.other.inside c.self.invariant c.other.invariant c.args.self.now c.args.other.now c.self.view_is c.other.view_is _ _ c.in-Some.ensures
+result_of : (c : goal.In-Some) → IsResult (frac_refuses_mul c.args.self.now c.args.other.now) (mul c.args.self.now c.args.other.now) c.in-Some.numerator c.in-Some.denominator
+result_of c = product_some c.self.inside c.other.inside c.self.invariant c.other.invariant c.args.self.now c.args.other.now c.self.view_is c.other.view_is _ _ c.in-Some.ensures
 
 pub invariant_of-result : goal.invariant_of-result
-invariant_of-result c = (formed_of c).stored
+invariant_of-result c = (result_of c).keeps.stored
 
 pub returns-in-Some : goal.returns-in-Some
-returns-in-Some c = let f = formed_of c in (f.kept, f.same)
+returns-in-Some c = let r = result_of c in (r.kept, r.keeps.same)
 
 pub returns-in-None : goal.returns-in-None
 returns-in-None c = product_none c.self.inside c.other.inside c.self.invariant c.other.invariant c.args.self.now c.args.other.now c.self.view_is c.other.view_is c.in-None.ensures
