@@ -6,15 +6,18 @@ use Rattle.std.specs.Int.RustNames.{unsigned_abs}
 use Rattle.lhg_math.specs.Gcd.{gcd}
 use Rattle.lhg_math.specs.GcdLemmas.{gcd-le, gcd-pos}
 
+-- a positive number of 128 bits has a size of at most 2^127 - 1
 abs_above : (d : ℤ) → pos 0 <ℤ d → FitsSigned w128 d → (0 < unsigned_abs d) × (unsigned_abs d < 2 ^ 127)
 abs_above (pos n) h f = (omega (arith, ints), f.sfits)
 abs_above (negsuc n) h f = absurd (omega (arith, ints))
 
+-- r is the greatest common divisor of the sizes, and fits
 pub record IsCommon (n d : ℤ) (r : ℕ) : Type 0 where
   pub value : r ≡ gcd (unsigned_abs n) (unsigned_abs d)
   pub above : 0 < r
   pub below : r < 2 ^ 127
 
+-- what the code computes from the two sizes is it
 pub is_common : (n d : ℤ) (r m k : ℕ) → pos 0 <ℤ d → FitsSigned w128 n → FitsSigned w128 d
     → m ≡ unsigned_abs (to_z w128 (of_z w128 n)) → k ≡ unsigned_abs (to_z w128 (of_z w128 d)) → r ≡ gcd m k → IsCommon n d r
 is_common n d r m k h fn fd em ek er =

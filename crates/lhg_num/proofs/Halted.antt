@@ -9,6 +9,7 @@ use Rattle.lhg_num.specs.declared.refusals.Halt.TheVariants.{Wide, Rows, Pieces,
 use Rattle.lhg_num.specs.Halting.{IsHaltedBy, IsHaltedByRows, IsHaltedByWide, IsHaltedByPieces, IsHaltedByMemory, IsWideBy}
 
 -- ---- from a word to a wider one
+-- from numbers to rows
 pub rows_from_wide : {T A : Type 0} (r : Result T Halt) (m : Marked A) (f : T → A) → IsHaltedByWide r m f → IsHaltedByRows r m f
 rows_from_wide (Ok x) m f h = h
 rows_from_wide (Err Wide) m f h = h
@@ -16,6 +17,7 @@ rows_from_wide (Err Rows) m f h = absurd h
 rows_from_wide (Err Pieces) m f h = h
 rows_from_wide (Err Memory) m f h = h
 
+-- from rows to all
 pub all_from_rows : {T A : Type 0} (r : Result T Halt) (m : Marked A) (f : T → A) → IsHaltedByRows r m f → IsHaltedBy r m f
 all_from_rows (Ok x) m f h = h
 all_from_rows (Err Wide) m f h = h
@@ -23,9 +25,11 @@ all_from_rows (Err Rows) m f h = h
 all_from_rows (Err Pieces) m f h = absurd h
 all_from_rows (Err Memory) m f h = h
 
+-- from numbers to all
 pub all_from_wide : {T A : Type 0} (r : Result T Halt) (m : Marked A) (f : T → A) → IsHaltedByWide r m f → IsHaltedBy r m f
 all_from_wide r m f h = all_from_rows r m f (rows_from_wide r m f h)
 
+-- from pieces to all
 pub all_from_pieces : {T A : Type 0} (r : Result T Halt) (m : Marked A) (f : T → A) → IsHaltedByPieces r m f → IsHaltedBy r m f
 all_from_pieces (Ok x) m f h = h
 all_from_pieces (Err Wide) m f h = absurd h
@@ -33,6 +37,7 @@ all_from_pieces (Err Rows) m f h = absurd h
 all_from_pieces (Err Pieces) m f h = h
 all_from_pieces (Err Memory) m f h = h
 
+-- from memory to numbers
 pub wide_from_memory : {T A : Type 0} (r : Result T Halt) (m : Marked A) (f : T → A) → IsHaltedByMemory r m f → IsHaltedByWide r m f
 wide_from_memory (Ok x) m f h = h
 wide_from_memory (Err Wide) m f h = absurd h
@@ -40,9 +45,11 @@ wide_from_memory (Err Rows) m f h = h
 wide_from_memory (Err Pieces) m f h = h
 wide_from_memory (Err Memory) m f h = h
 
+-- from memory to rows
 pub rows_from_memory : {T A : Type 0} (r : Result T Halt) (m : Marked A) (f : T → A) → IsHaltedByMemory r m f → IsHaltedByRows r m f
 rows_from_memory r m f h = rows_from_wide r m f (wide_from_memory r m f h)
 
+-- from memory to pieces
 pub pieces_from_memory : {T A : Type 0} (r : Result T Halt) (m : Marked A) (f : T → A) → IsHaltedByMemory r m f → IsHaltedByPieces r m f
 pieces_from_memory (Ok x) m f h = h
 pieces_from_memory (Err Wide) m f h = h
@@ -50,6 +57,7 @@ pieces_from_memory (Err Rows) m f h = h
 pieces_from_memory (Err Pieces) m f h = absurd h
 pieces_from_memory (Err Memory) m f h = h
 
+-- from memory to all
 pub all_from_memory : {T A : Type 0} (r : Result T Halt) (m : Marked A) (f : T → A) → IsHaltedByMemory r m f → IsHaltedBy r m f
 all_from_memory r m f h = all_from_wide r m f (wide_from_memory r m f h)
 
@@ -65,6 +73,7 @@ wide_halts (Ok x) m f h k = absurd h
 wide_halts {T} (Err e) m f h k = subst (λ (d : Halt). IsHaltedByWide {T = T} (Err d) m f) (sym h) k
 
 -- ---- a halt of a part is a halt of the whole
+-- where both may halt for all
 pub part_halts : {T U A B : Type 0} (r : Result T Halt) (e : Halt) (m : Marked A) (f : T → A) (n : Marked B) (h : U → B)
     → IsErrAnd r (λ d. d ≡ e) → IsHaltedBy {T = U} (Err e) n h → IsPart m n → IsHaltedBy r m f
 part_halts (Ok x) e m f n h i k p = absurd i
@@ -76,6 +85,7 @@ part_halts {T} {U} {A} {B} (Err d) e m f n h i k p = subst (λ (w : Halt). IsHal
     on Pieces k = p.pieces k
     on Memory k = tt
 
+-- where both may halt for numbers and rows
 pub part_halts_rows : {T U A B : Type 0} (r : Result T Halt) (e : Halt) (m : Marked A) (f : T → A) (n : Marked B) (h : U → B)
     → IsErrAnd r (λ d. d ≡ e) → IsHaltedByRows {T = U} (Err e) n h → IsPart m n → IsHaltedByRows r m f
 part_halts_rows (Ok x) e m f n h i k p = absurd i
@@ -87,6 +97,7 @@ part_halts_rows {T} {U} {A} {B} (Err d) e m f n h i k p = subst (λ (w : Halt). 
     on Pieces k = k
     on Memory k = tt
 
+-- where both may halt for numbers
 pub part_halts_wide : {T U A B : Type 0} (r : Result T Halt) (e : Halt) (m : Marked A) (f : T → A) (n : Marked B) (h : U → B)
     → IsErrAnd r (λ d. d ≡ e) → IsHaltedByWide {T = U} (Err e) n h → IsPart m n → IsHaltedByWide r m f
 part_halts_wide (Ok x) e m f n h i k p = absurd i
@@ -98,6 +109,7 @@ part_halts_wide {T} {U} {A} {B} (Err d) e m f n h i k p = subst (λ (w : Halt). 
     on Pieces k = k
     on Memory k = tt
 
+-- where both may halt for pieces
 pub part_halts_pieces : {T U A B : Type 0} (r : Result T Halt) (e : Halt) (m : Marked A) (f : T → A) (n : Marked B) (h : U → B)
     → IsErrAnd r (λ d. d ≡ e) → IsHaltedByPieces {T = U} (Err e) n h → IsPart m n → IsHaltedByPieces r m f
 part_halts_pieces (Ok x) e m f n h i k p = absurd i
@@ -109,6 +121,7 @@ part_halts_pieces {T} {U} {A} {B} (Err d) e m f n h i k p = subst (λ (w : Halt)
     on Pieces k = p.pieces k
     on Memory k = tt
 
+-- where both may halt for want of memory alone
 pub part_halts_memory : {T U A B : Type 0} (r : Result T Halt) (e : Halt) (m : Marked A) (f : T → A) (n : Marked B) (h : U → B)
     → IsErrAnd r (λ d. d ≡ e) → IsHaltedByMemory {T = U} (Err e) n h → IsHaltedByMemory r m f
 part_halts_memory (Ok x) e m f n h i k = absurd i

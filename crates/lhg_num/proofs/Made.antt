@@ -38,6 +38,7 @@ made q h k = record {
 pub made_at : (q : Number) (t b : ℤ) → unsigned_abs q.top < 2 ^ 127 → q.bottom < 2 ^ 127 → t ≡ q.top → b ≡ pos q.bottom → Keeps q t b
 made_at q t b h k e f = subst (λ w. Keeps q w b) (sym e) (subst (λ w. Keeps q q.top w) (sym f) (made q h k))
 
+-- a number of 64 bits is within the limit
 small_whole : (n : ℤ) → FitsSigned w64 n → unsigned_abs n < 2 ^ 127
 small_whole (pos n) h = let k = h.sfits in omega (arith, ints)
 small_whole (negsuc n) h = let k = h.sfits in omega (arith, ints)
@@ -50,6 +51,7 @@ whole_made n h =
     let e : to_z w128 (of_z w128 (to_z w64 (of_z w64 n))) ≡ n = ap (λ w. to_z w128 (of_z w128 w)) (to_z-of_z w64 n h) ∙ to_z-of_z w128 n (fits_abs n s) in
     made_at (whole n) _ (pos 1) (subst (λ w. unsigned_abs w < 2 ^ 127) (sym p.0) s) (subst (λ w. w < 2 ^ 127) (sym p.1) (omega arith)) (e ∙ sym p.0) (ap (λ (w : ℕ). pos w) (sym p.1))
 
+-- the fields 1 and 2 keep 1/2
 pub half_made : Keeps half (pos 1) (pos 2)
 half_made =
     let p = half_parts in
@@ -61,6 +63,7 @@ keeps_coded q t b h =
     subst (λ w. Keeps q w (to_z w128 (of_z w128 b))) (sym (to_z-of_z w128 t (fits_abs t h.stored.in_range)))
     (subst (λ w. Keeps q t w) (sym (to_z-of_z w128 b (fits_abs b h.stored.below))) h)
 
+-- the quotient of a number within the limit is within it
 part_below : (n : ℤ) (g : ℕ) → unsigned_abs n < 2 ^ 127 → unsigned_abs (int_div n (pos g)) < 2 ^ 127
 part_below n g h = let k = div-le_self (unsigned_abs n) g in subst (λ w. w < 2 ^ 127) (sym (abs-quot n g)) (omega arith)
 
@@ -105,8 +108,10 @@ new_keeps n d some h k p e =
     keeps_coded _ _ _ (quot_made n d some h k p
     (e ∙ ap (λ w. lowest_parts w (to_z w128 (of_z w128 d))) (to_z-of_z w128 n (fits_abs n h)) ∙ ap (lowest_parts n) (to_z-of_z w128 d (fits_abs d k))))
 
+-- a number with a size is not 0
 pub not_zero : (d : ℤ) → 0 < unsigned_abs d → int_eq d (pos 0) ≡ false
 not_zero d h = by_bool (int_eq d (pos 0)) (λ e. let z : d ≡ pos 0 = (Decides-int_eq d (pos 0)).0 e in let w : 0 < 0 = subst (λ x. 0 < unsigned_abs x) z h in absurd (omega arith)) (λ e. e)
 
+-- two numbers within the limit are not past it
 pub within : (n d : ℤ) → unsigned_abs n < 2 ^ 127 → unsigned_abs d < 2 ^ 127 → (is_past n || is_past d) ≡ false
 within n d h k = grind arith

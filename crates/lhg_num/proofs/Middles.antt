@@ -10,6 +10,7 @@ unfolding mid
 product_exact (Ok q) x y k h = (rw k h.0, h.1)
 product_exact (Err e) x y k h = rw k h
 
+-- the same for what the code computed
 pub mid_exact : {E : Type 0} (r : Result Number E) (x y sum part : Number) → frac_refuses_add x y ≡ false → sum ≡ add x y → part ≡ half
     → IsExact r (frac_refuses_mul sum part) (λ q. q ≡ mul sum part) → IsExact r (frac_refuses_mid x y) (λ q. q ≡ mid x y)
 mid_exact r x y sum part k e f h =

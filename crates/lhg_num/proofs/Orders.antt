@@ -1,25 +1,25 @@
 -- From the two sides of a comparison to the order of the numbers.
-use Rattle.std.proofs.Common.{◌≡◌, ℤ, pos, ◌*ℤ◌, ◌/◌, to_z, of_z, refl, ap, ◌∙◌, true, false, ◌||◌, Some, None}
-use Rattle.std.proofs.lemmas.Int.{to_z-of_z}
+use Rattle.std.proofs.Common.{◌≡◌, ℤ, pos, ◌*ℤ◌, ◌/◌, to_z, of_z, refl, ap, ◌∙◌, true, false, Some, None}
 use Rattle.std.specs.Int.{w128}
 use Rattle.std.specs.Ordering.{int_cmp}
 use Rattle.std.specs.declared.cmp.Ordering.{Ordering}
 use Rattle.lhg_math.specs.Gcd.{gcd}
 use Rattle.lhg_math.specs.Number.{Number, compare}
 use Rattle.lhg_math.specs.Compared.{compare-sides}
-use Rattle.lhg_math.specs.Tests.{by_bool}
 use Rattle.lhg_num.specs.Stored.{IsStored}
 use Rattle.lhg_num.specs.FracModel.{number_of}
-use Rattle.lhg_num.specs.Limits.{is_past, formed, frac_refuses_cmp}
+use Rattle.lhg_num.specs.Limits.{formed, frac_refuses_cmp}
 use Rattle.lhg_num.specs.Parts.{both_of, crossed_parts}
 use Rattle.lhg_num.specs.declared.fraction.Frac.TheInside.{Inside}
-use Rattle.lhg_num.proofs.Fields.{fits_abs, numerator_is, denominator_is}
+use Rattle.lhg_num.proofs.Fields.{numerator_is, denominator_is}
 use Rattle.lhg_num.proofs.Formed.{both_some, both_none}
 
 module _ (f g : Inside) (hf : IsStored f.numerator f.denominator) (hg : IsStored g.numerator g.denominator) (x y : Number) (ex : number_of f ≡ x) (ey : number_of g ≡ y) where
+  -- the first number over the least common denominator
   abbrev left : ℤ
   left = x.top *ℤ pos (y.bottom / gcd x.bottom y.bottom)
 
+  -- the second one
   abbrev right : ℤ
   right = y.top *ℤ pos (x.bottom / gcd x.bottom y.bottom)
 

@@ -1,5 +1,5 @@
 -- From the parts of a product and of a sum to the fraction.
-use Rattle.std.proofs.Common.{◌≡◌, ℕ, ℤ, pos, ◌*ℤ◌, ◌+ℤ◌, ◌/◌, ◌*◌, ◌<◌, ◌≤◌, ◌^◌, to_z, of_z, arith, refl, ap, sym, ◌∙◌, subst, true, false, ◌||◌, Bool, Option, Some, None}
+use Rattle.std.proofs.Common.{◌≡◌, ℕ, ℤ, pos, ◌*ℤ◌, ◌+ℤ◌, ◌/◌, ◌*◌, ◌<◌, ◌≤◌, ◌^◌, to_z, of_z, arith, refl, ap, sym, ◌∙◌, subst, true, false, ◌||◌, Bool, Some, None}
 use Rattle.std.proofs.Math.Nat.{div-le_self}
 use Rattle.std.specs.Int.{w128}
 use Rattle.std.specs.Int.RustNames.{unsigned_abs, int_div}
@@ -46,6 +46,7 @@ past_part s h e =
     grind arith
 
 module _ (x y : Number) where
+  -- the formed numbers of a sum
   abbrev g : ℕ
   g = gcd x.bottom y.bottom
 

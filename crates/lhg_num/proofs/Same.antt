@@ -13,6 +13,7 @@ use Rattle.lhg_num.specs.FracModel.{number_of}
 use Rattle.lhg_num.specs.declared.fraction.Frac.TheInside.{Inside}
 use Rattle.lhg_num.proofs.Fields.{numerator_is, denominator_is}
 
+-- both tests passed
 both_true : (a b : Bool) → (a && b) ≡ true → (a ≡ true) × (b ≡ true)
 both_true true b h = (refl, h)
 both_true false b h = cc
@@ -26,6 +27,7 @@ Decides-parts x y =
       λ e. rw (t.1 (ap (λ z. z.top) e)) (b.1 (ap (λ (z : Number). pos z.bottom) e)),
     )
 
+-- the tests of the parts are the test of equality
 same_parts : (x y : Number) → (int_eq x.top y.top && int_eq (pos x.bottom) (pos y.bottom)) ≡ same_number x y
 same_parts x y = same_from_decides _ _ (Decides-parts x y) (Decides-same_number x y)
 

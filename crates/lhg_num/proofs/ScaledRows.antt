@@ -1,5 +1,5 @@
 -- A loop that scales the entries of a row one by one, and the row that it makes.
-use Rattle.std.proofs.Common.{◌≡◌, ℕ, zero, suc, ◌+◌, ◌<◌, List, [], ◌∷◌, ◌++◌, length, map, take, drop, get_or, refl, ap, sym, ◌∙◌, arith, add-one, Bool, true, false, cond, Option, Some, None, Result, Ok, Err, subst}
+use Rattle.std.proofs.Common.{◌≡◌, ℕ, zero, suc, ◌+◌, ◌<◌, List, [], ◌∷◌, ◌++◌, length, map, take, drop, get_or, refl, ap, sym, ◌∙◌, arith, add-one, false, cond, Some, None, Result, Ok, Err, subst}
 use Rattle.std.proofs.Math.ListN.{set}
 use Rattle.lhg_math.specs.Number.{Number, mul, quot, inverse}
 use Rattle.lhg_math.specs.Quotients.{quot-is}
@@ -9,6 +9,7 @@ use Rattle.lhg_math.specs.Tests.{any_of, by_bool}
 use Rattle.lhg_num.specs.Limits.{IsExact, frac_refuses_mul, frac_refuses_canon}
 use Rattle.lhg_num.specs.FracCanon.{canon_frac}
 
+-- the same by recursion on the row
 set_step : (f : Number → Number) (old : List Number) (i : ℕ) (x y : Number) → i < length old → x ≡ get_or (map f (take i old) ++ drop i old) i x → y ≡ f x
     → set (map f (take i old) ++ drop i old) i y ≡ map f (take (suc i) old) ++ drop (suc i) old
 set_step f [] i x y h g k = absurd (omega arith)
@@ -21,27 +22,13 @@ pub set-done : (f : Number → Number) (old row : List Number) (i : ℕ) (x y : 
 set-done f old row i x y e h g k =
     rw add-one (ap (λ r. set r i y) e ∙ set_step f old i x y h (g ∙ ap (λ r. get_or r i x) e) (k ∙ ap f (sym g)))
 
-none_step : (f : Number → Number) (p : Number → Bool) (old : List Number) (i : ℕ) (x : Number) → any_of p old ≡ false → i < length old → x ≡ get_or (map f (take i old) ++ drop i old) i x → p x ≡ false
-none_step f p [] i x n h g = absurd (omega arith)
-none_step f p (a ∷ rest) zero x n h g = by_bool (p a) (λ e. let z : true ≡ false = rw e at n in cc) (λ e. ap p g ∙ e)
-none_step f p (a ∷ rest) (suc i) x n h g =
-    by_bool (p a) (λ e. let z : true ≡ false = rw e at n in cc)
-    (λ e. let m : any_of p rest ≡ false = rw e at n in none_step f p rest i x m (omega arith) g)
-
--- no entry that is still there is refused
-pub none_at : (f : Number → Number) (p : Number → Bool) (old row : List Number) (i : ℕ) (x : Number) → any_of p old ≡ false → row ≡ map f (take i old) ++ drop i old → i < length old → x ≡ get_or row i x → p (get_or row i x) ≡ false
-none_at f p old row i x n e h g = ap p (sym g) ∙ none_step f p old i x n h (g ∙ ap (λ r. get_or r i x) e)
-
 -- what the leading size says of its row
 pub record IsLeading (row : List Number) (size : Number) : Type 0 where
   pub some : is_nought (lead row) ≡ false
   pub is : size ≡ size_of (lead row)
   pub positive : is_nought size ≡ false
 
-size_or : Option Number → Number → Number
-size_or None x = x
-size_or (Some y) x = y
-
+-- the leading size of a row
 pub leading : (row : List Number) (size : Number) → Some size ≡ cond (is_nought (lead row)) None (Some (size_of (lead row))) → IsLeading row size
 leading row size h =
     by_bool (is_nought (lead row))
@@ -50,10 +37,12 @@ leading row size h =
     let w : size ≡ size_of (lead row) = cc in
     record { some = e; is = w; positive = ap is_nought w ∙ is_nought-positive _ (size_above (lead row) e) })
 
+-- to multiply by an inverse is to divide
 map-times : (s : Number) (xs : List Number) → map (λ x. mul x (inverse s)) xs ≡ map (λ x. quot x s) xs
 map-times s [] = refl
 map-times s (x ∷ xs) = ap (λ y. y ∷ map (λ z. mul z (inverse s)) xs) (sym (quot-is x s)) ∙ ap (λ ys. quot x s ∷ ys) (map-times s xs)
 
+-- the same for the leading size itself
 by_size : {T E : Type 0} (r : Result T E) (row new : List Number) → is_nought (lead row) ≡ false
     → IsExact r (any_of (λ x. frac_refuses_mul x (inverse (size_of (lead row)))) row) (λ _. new ≡ map (λ x. mul x (inverse (size_of (lead row)))) row)
     → IsExact r (frac_refuses_canon row) (λ _. new ≡ canon_frac row)
@@ -66,6 +55,7 @@ pub canon_exact : {T E : Type 0} (r : Result T E) (row new : List Number) (size 
 canon_exact r row new size factor l e h =
     by_size r row new l.some (subst (λ (k : Number). IsExact r (any_of (λ x. frac_refuses_mul x k) row) (λ _. new ≡ map (λ x. mul x k) row)) (e ∙ ap inverse l.is) h)
 
+-- a row of entries that stand for themselves
 map-self : (xs : List Number) → map (λ x. x) xs ≡ xs
 map-self [] = refl
 map-self (x ∷ xs) = ap (λ ys. x ∷ ys) (map-self xs)

@@ -6,6 +6,7 @@ use Rattle.lhg_math.specs.NumberRing.{mul_comm, mul-unit}
 use Rattle.lhg_math.specs.NumberOrder.{nought_unit}
 use Rattle.lhg_math.specs.Tests.{all_of, by_bool}
 
+-- what the calculus needs to know of a number type
 pub record Arithmetic : Type 0 where
   -- the numbers that the type holds, of any size
   pub holds : Number → Bool

@@ -19,10 +19,12 @@ frac_arithmetic = record {
   canon_of = canon_frac;
 }
 
+-- each row is held
 all_true : (row : List Number) → all_of (λ x. true) row ≡ true
 all_true [] = refl
 all_true (x ∷ xs) = all_true xs
 
+-- fractions keep the laws of a number type
 pub frac_is_lawful : IsLawful frac_arithmetic
 frac_is_lawful = record {
   multiple = λ row h. canon_multiple row;

@@ -19,21 +19,25 @@ map-quot : (s : Number) (xs : List Number) → map (λ x. quot x s) xs ≡ map (
 map-quot s [] = refl
 map-quot s (x ∷ xs) = ap (λ y. y ∷ map (λ z. quot z s) xs) (quot-is x s ∙ mul_comm x (inverse s)) ∙ ap (λ ys. mul (inverse s) x ∷ ys) (map-quot s xs)
 
+-- the inverse of a positive number is positive
 inverse_positive : (x : Number) → lt nought x ≡ true → lt nought (inverse x) ≡ true
 inverse_positive x h = sym (lt-mul x nought (inverse x) h) ∙ ap (λ w. lt w (mul x (inverse x))) (mul-nought x) ∙ ap (λ w. lt nought w) (mul-inverse x (abs_pos_of_lt x h)) ∙ nought_unit
 
+-- a scaled row is a positive multiple
 pub canon_multiple : (row : List Number) → IsMultiple row (canon_frac row)
 canon_multiple row =
     by_bool (is_nought (lead row))
     (λ e. rw e (multiple_self row))
     (λ e. record { factor = inverse (size_of (lead row)); positive = inverse_positive _ (size_above (lead row) e); entries = rw e (map-quot (size_of (lead row)) row) })
 
+-- a positive factor comes out of the leading entry
 lead_scaled : (k : Number) (xs : List Number) → lt nought k ≡ true → lead (map (λ x. mul k x) xs) ≡ mul k (lead xs)
 lead_scaled k [] h = sym (mul-nought k)
 lead_scaled k (x ∷ xs) h =
     ap (λ b. cond b (lead (map (λ y. mul k y) xs)) (mul k x)) (is_nought-scaled k x h)
     ∙ by_bool (is_nought x) (λ e. rw e (lead_scaled k xs h)) (λ e. rw e refl)
 
+-- a factor leaves a row of zeros as it is
 all_nought : (k : Number) (xs : List Number) → is_nought (lead xs) ≡ true → map (λ x. mul k x) xs ≡ xs
 all_nought k [] h = refl
 all_nought k (x ∷ xs) h =
@@ -42,6 +46,7 @@ all_nought k (x ∷ xs) h =
     ap (λ y. y ∷ map (λ z. mul k z) xs) (ap (λ w. mul k w) (nought_is x e) ∙ mul-nought k ∙ sym (nought_is x e)) ∙ ap (λ ys. x ∷ ys) (all_nought k xs t))
     (λ e. let t : is_nought x ≡ true = rw e at h in let z : true ≡ false = sym t ∙ e in cc)
 
+-- a factor of the divisor comes out of its inverse
 inverse_scaled : (k s : Number) → lt nought k ≡ true → lt nought s ≡ true → mul (inverse (mul k s)) k ≡ inverse s
 inverse_scaled k s h p =
     let a = inverse (mul k s) in
@@ -55,6 +60,7 @@ map_scaled : (a b k : Number) (xs : List Number) → mul a k ≡ b → map (λ x
 map_scaled a b k [] e = refl
 map_scaled a b k (x ∷ xs) e = ap (λ y. y ∷ map (λ z. mul a z) (map (λ z. mul k z) xs)) (sym (mul_assoc a k x) ∙ ap (λ w. mul w x) e) ∙ ap (λ ys. mul b x ∷ ys) (map_scaled a b k xs e)
 
+-- a factor of the entries and of the divisor falls away
 quot_scaled : (k s : Number) (xs : List Number) → lt nought k ≡ true → lt nought s ≡ true → map (λ x. quot x (mul k s)) (map (λ x. mul k x) xs) ≡ map (λ x. quot x s) xs
 quot_scaled k s xs h p = map-quot (mul k s) (map (λ x. mul k x) xs) ∙ map_scaled (inverse (mul k s)) (inverse s) k xs (inverse_scaled k s h p) ∙ sym (map-quot s xs)
 

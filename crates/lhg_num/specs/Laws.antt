@@ -1,7 +1,8 @@
--- The laws of marks and of halts, as facts, each at numbers.
+-- The laws of scaling, of marks and of halts, as facts; those of marks and halts at numbers.
 use Rattle.std.specs.Prelude.{◌≡◌, true, List, [], ◌++◌, ◌∷◌, map, Result, Err}
 use Rattle.std.specs.Result.{IsErrAnd}
 use Rattle.lhg_math.specs.Number.{Number}
+use Rattle.lhg_math.specs.Tests.{all_of}
 use Rattle.lhg_num.specs.Arithmetic.{Arithmetic, IsLawful, IsMultiple, scaled}
 use Rattle.lhg_num.specs.Marked.{Marked, done, and_then, each, walk, IsRest}
 use Rattle.lhg_num.specs.MarkedLaws.{IsPart, IsBuilt}
@@ -9,9 +10,10 @@ use Rattle.lhg_num.specs.Halting.{IsHaltedBy, IsHaltedByRows, IsHaltedByWide, Is
 use Rattle.lhg_num.specs.declared.refusals.Halt.{Halt}
 use Rattle.lhg_num.specs.declared.refusals.Halt.TheVariants.{Wide}
 
--- a lawful type scales each row to a positive multiple, whatever the entries
-abbrev pub ScaledLaw : Type 0
-ScaledLaw = (a : Arithmetic) (row : List Number) → IsLawful a → IsMultiple row (scaled a row)
+-- a lawful type scales each row to a positive multiple, whatever the entries, and by its own rule where it holds them
+pub record ScaledLaws : Type 0 where
+  pub multiple : (a : Arithmetic) (row : List Number) → IsLawful a → IsMultiple row (scaled a row)
+  pub held : (a : Arithmetic) (row : List Number) → all_of a.holds row ≡ true → scaled a row ≡ a.canon_of row
 
 -- steps one after another, members one by one, and loops over them
 pub record MarkedLaws : Type 0 where

@@ -13,6 +13,7 @@ pub record Marked (A : Type 0) : Type 0 where
   pub rows : Bool
   pub pieces : Bool
 
+-- a value with no mark
 abbrev pub done : {A : Type 0} → A → Marked A
 done x = record { value = x; wide = false; rows = false; pieces = false }
 
@@ -39,22 +40,28 @@ walk f s [] = done s
 walk f s (x ∷ xs) = and_then (f s x) (λ t. walk f t xs)
 
 -- ---- operations of a type
+-- the sum, with its mark
 abbrev pub marked_add : Arithmetic → Number → Number → Marked Number
 marked_add a x y = refusing (a.refuses_add x y) (add x y)
 
+-- the difference, with its mark
 abbrev pub marked_sub : Arithmetic → Number → Number → Marked Number
 marked_sub a x y = refusing (a.refuses_sub x y) (sub x y)
 
+-- the product, with its mark
 abbrev pub marked_mul : Arithmetic → Number → Number → Marked Number
 marked_mul a x y = refusing (a.refuses_mul x y) (mul x y)
 
+-- the order, with its mark
 abbrev pub marked_cmp : Arithmetic → Number → Number → Marked Ordering
 marked_cmp a x y = refusing (a.refuses_cmp x y) (compare x y)
 
 -- ---- operations of fractions alone
+-- the quotient, with its mark
 abbrev pub marked_div : Number → Number → Marked Number
 marked_div x y = refusing (frac_refuses_div x y) (quot x y)
 
+-- the middle, with its mark
 abbrev pub marked_mid : Number → Number → Marked Number
 marked_mid x y = refusing (frac_refuses_mid x y) (mid x y)
 

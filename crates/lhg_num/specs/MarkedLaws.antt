@@ -9,16 +9,20 @@ pub record IsPart {A B : Type 0} (whole : Marked A) (part : Marked B) : Type 0 w
   pub rows : part.rows ≡ true → whole.rows ≡ true
   pub pieces : part.pieces ≡ true → whole.pieces ≡ true
 
+-- a mark of the first step is a mark of both
 pub or_left : (a b : Bool) → a ≡ true → (a || b) ≡ true
 or_left a b h = rw h refl
 
+-- a mark of the second step is a mark of both
 pub or_right : (a b : Bool) → b ≡ true → (a || b) ≡ true
 or_right true b h = refl
 or_right false b h = h
 
+-- at the start all is left
 pub rest_self : {A : Type 0} (m : Marked A) → IsRest m m
 rest_self m = record { same = refl; wide = λ h. h; rows = λ h. h; pieces = λ h. h }
 
+-- what is left of what is left is left of the whole
 pub rest_rest : {A : Type 0} (m n o : Marked A) → IsRest m n → IsRest n o → IsRest m o
 rest_rest m n o r s = record { same = s.same ∙ r.same; wide = λ h. r.wide (s.wide h); rows = λ h. r.rows (s.rows h); pieces = λ h. r.pieces (s.pieces h) }
 
@@ -31,6 +35,7 @@ and_then-rest m f = record {
   pieces = or_right m.pieces _;
 }
 
+-- the marks of the first step are among those of both
 pub and_then-part : {A B : Type 0} (m : Marked A) (f : A → Marked B) → IsPart (and_then m f) m
 and_then-part m f = record {
   wide = or_left m.wide _;
@@ -38,6 +43,7 @@ and_then-part m f = record {
   pieces = or_left m.pieces _;
 }
 
+-- a part of what is left is a part of the whole
 pub rest_part : {A B : Type 0} (m n : Marked A) (o : Marked B) → IsRest m n → IsPart n o → IsPart m o
 rest_part m n o r s = record { wide = λ h. r.wide (s.wide h); rows = λ h. r.rows (s.rows h); pieces = λ h. r.pieces (s.pieces h) }
 
@@ -53,9 +59,11 @@ walk-append f s (x ∷ xs) ys =
     rest_rest _ _ _ (and_then-rest (f s x) (λ t. walk f t (xs ++ ys))) (walk-append f (f s x).value xs ys)
 
 -- ---- loops
+-- the whole is a part of itself
 pub part_self : {A : Type 0} (m : Marked A) → IsPart m m
 part_self m = record { wide = λ h. h; rows = λ h. h; pieces = λ h. h }
 
+-- a part of a part is a part
 pub part_part : {A B C : Type 0} (m : Marked A) (n : Marked B) (o : Marked C) → IsPart m n → IsPart n o → IsPart m o
 part_part m n o r s = record { wide = λ h. r.wide (s.wide h); rows = λ h. r.rows (s.rows h); pieces = λ h. r.pieces (s.pieces h) }
 
@@ -64,6 +72,7 @@ pub record IsBuilt {B : Type 0} (whole : Marked (List B)) (out : List B) (rest :
   pub same : out ++ rest.value ≡ whole.value
   pub part : IsPart whole rest
 
+-- at the start nothing is built
 pub each-start : {A B : Type 0} (f : A → Marked B) (xs : List A) → IsBuilt (each f xs) [] (each f xs)
 each-start f xs = record { same = refl; part = part_self (each f xs) }
 
@@ -87,12 +96,14 @@ each-part f whole out x xs b = record {
   pieces = λ h. b.part.pieces (or_left (f x).pieces _ h);
 }
 
+-- the first member of what is left was walked over
 pub walk-step : {S A : Type 0} (f : S → A → Marked S) (whole : Marked S) (s t : S) (x : A) (xs : List A)
     → IsRest whole (walk f s (x ∷ xs)) → t ≡ (f s x).value → IsRest whole (walk f t xs)
 walk-step f whole s t x xs r e =
     let next = walk f (f s x).value xs in
     subst (λ u. IsRest whole (walk f u xs)) (sym e) (rest_rest whole (walk f s (x ∷ xs)) next r (and_then-rest (f s x) (λ u. walk f u xs)))
 
+-- the marks of its step are marks of the whole
 pub walk-part : {S A : Type 0} (f : S → A → Marked S) (whole : Marked S) (s : S) (x : A) (xs : List A) → IsRest whole (walk f s (x ∷ xs)) → IsPart whole (f s x)
 walk-part f whole s x xs r = rest_part whole (walk f s (x ∷ xs)) (f s x) r (and_then-part (f s x) (λ u. walk f u xs))
 
@@ -100,6 +111,7 @@ walk-part f whole s x xs r = rest_part whole (walk f s (x ∷ xs)) (f s x) r (an
 pub built-start : {B : Type 0} (whole : Marked (List B)) → IsBuilt whole [] whole
 built-start whole = record { same = refl; part = part_self whole }
 
+-- one more value is built, and the rest is left
 pub built-step : {B : Type 0} (whole : Marked (List B)) (out : List B) (m : Marked B) (rest : Marked (List B)) (y : B)
     → IsBuilt whole out (and_then m (λ z. valued (λ ys. z ∷ ys) rest)) → y ≡ m.value → IsBuilt whole (out ++ y ∷ []) rest
 built-step whole out m rest y b e = record {
@@ -111,6 +123,7 @@ built-step whole out m rest y b e = record {
   };
 }
 
+-- the marks of the next value are marks of the whole
 pub built-part : {B : Type 0} (whole : Marked (List B)) (out : List B) (m : Marked B) (rest : Marked (List B)) → IsBuilt whole out (and_then m (λ z. valued (λ ys. z ∷ ys) rest)) → IsPart whole m
 built-part whole out m rest b = record {
   wide = λ h. b.part.wide (or_left m.wide _ h);

@@ -80,7 +80,7 @@ impl From<i64> for Frac {
 }
 
 impl Frac {
-    /// The fraction n / d.
+    /// The fraction n / d in lowest terms. It is `Zero` where d is 0, and else `Wide` where n or d is -2^127.
     pub fn new(n: i128, d: i128) -> Result<Frac, DivError>
         ensures { IsDivided result (int_eq d (pos 0)) (is_past n || is_past d) (λ q. q ≡ quot (whole n) (whole d)) }
     {
@@ -111,7 +111,7 @@ impl Frac {
         self.denominator
     }
 
-    /// The quotient.
+    /// The quotient. It is `Zero` where the divisor is 0.
     pub fn div(&self, other: &Frac) -> Result<Frac, DivError>
         ensures { IsDivided result (is_nought other.now) (frac_refuses_div self.now other.now) (λ q. q ≡ quot self.now other.now) }
     {
@@ -139,6 +139,7 @@ impl Frac {
         }
     }
 
+    // The fraction 1 / 2.
     fn half() -> Frac
         ensures { result ≡ half }
     {

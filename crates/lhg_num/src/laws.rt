@@ -1,16 +1,16 @@
 // What callers may rest on: the laws of scaling, of marks and of halts.
 ghost use Rattle.lhg_num.specs.Arithmetic.{IsLawful};
 ghost use Rattle.lhg_num.specs.FracArithmetic.{frac_arithmetic};
-ghost use Rattle.lhg_num.specs.Laws.{ScaledLaw, MarkedLaws, HaltLaws};
+ghost use Rattle.lhg_num.specs.Laws.{ScaledLaws, MarkedLaws, HaltLaws};
 
 /// Fractions keep the laws of a number type.
 pub fn law_frac()
     ensures { IsLawful frac_arithmetic }
 {}
 
-/// A row is scaled to a positive multiple, also where the type does not hold its entries.
+/// A row is scaled to a positive multiple, also where the type does not hold its entries, and by the type's rule where it does.
 pub fn law_scaled()
-    ensures { ScaledLaw }
+    ensures { ScaledLaws }
 {}
 
 /// Values with marks, step by step.

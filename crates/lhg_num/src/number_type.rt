@@ -8,7 +8,8 @@ ghost use Rattle.lhg_num.specs.Limits.{IsExact};
 use crate::refusals::Wide;
 use std::cmp::Ordering;
 
-/// A type of exact numbers. `==` compares values, and is never refused.
+/// A type of exact numbers. An operation answers `Wide` exactly on the operands that the type refuses.
+/// `==` compares values, and is never refused.
 pub trait Scalar: Copy + PartialEq {
     ghost meaning: { Self → Number };
 

@@ -1,15 +1,14 @@
 // Arithmetic on numerators and denominators.
-ghost use Rattle.std.specs.Prelude.{◌≡◌, ℕ, ◌+◌, ◌%◌, ◌^◌, ◌<◌, ◌≤◌, ℤ, pos, ◌+ℤ◌, ◌*ℤ◌, unsigned_abs, ◌<ℤ◌};
-ghost use Rattle.std.specs.Prelude.{◌&&◌};
+ghost use Rattle.std.specs.Prelude.{◌≡◌, ℕ, ◌^◌, ◌<◌, ℤ, pos, ◌+ℤ◌, ◌*ℤ◌, ◌<ℤ◌, ◌&&◌, unsigned_abs};
 ghost use Rattle.std.specs.Int.RustNames.{int_div};
 ghost use Rattle.std.specs.Ordering.{int_eq};
 ghost use Rattle.lhg_math.specs.Gcd as spec;
 ghost use Rattle.lhg_math.specs.Number.{flip_sign};
 ghost use Rattle.lhg_num.specs.Limits.{formed};
-ghost use Rattle.lhg_num.specs.Stored.{IsStored};
 ghost use Rattle.lhg_num.specs.Parts.{product_parts, both_of, sides_of, total_parts, reduced_parts, crossed_parts, lowest_parts};
 
-pub(crate) fn gcd(a: u128, b: u128) -> u128
+// The greatest common divisor, by Euclid's steps.
+fn gcd(a: u128, b: u128) -> u128
     ensures { result ≡ spec.gcd a b }
 {
     let mut x = a;
@@ -22,7 +21,17 @@ pub(crate) fn gcd(a: u128, b: u128) -> u128
     x
 }
 
-pub(crate) fn times(a: i128, b: i128) -> Option<i128>
+// The greatest common divisor of a numerator and a denominator.
+fn common(n: i128, d: i128) -> i128
+    requires { pos 0 <ℤ d }
+    ensures value { result ≡ pos (spec.gcd (unsigned_abs n) (unsigned_abs d)) }
+    ensures above { pos 0 <ℤ result }
+{
+    gcd(n.unsigned_abs(), d.unsigned_abs()) as i128
+}
+
+// The product, where its size is at most 2^127 - 1.
+fn times(a: i128, b: i128) -> Option<i128>
     ensures { result ≡ formed (a *ℤ b) }
 {
     match a.checked_mul(b) {
@@ -31,7 +40,8 @@ pub(crate) fn times(a: i128, b: i128) -> Option<i128>
     }
 }
 
-pub(crate) fn plus(a: i128, b: i128) -> Option<i128>
+// The sum, where its size is at most 2^127 - 1.
+fn plus(a: i128, b: i128) -> Option<i128>
     ensures { result ≡ formed (a +ℤ b) }
 {
     match a.checked_add(b) {
@@ -40,20 +50,22 @@ pub(crate) fn plus(a: i128, b: i128) -> Option<i128>
     }
 }
 
-// The greatest common divisor of a numerator and a denominator.
-pub(crate) fn common(n: i128, d: i128) -> i128
-    requires { pos 0 <ℤ d }
-    ensures value { result ≡ pos (spec.gcd (unsigned_abs n) (unsigned_abs d)) }
-    ensures above { pos 0 <ℤ result }
-{
-    gcd(n.unsigned_abs(), d.unsigned_abs()) as i128
-}
-
-pub(crate) fn part(a: i128, g: i128) -> i128
+// The quotient by a divisor.
+fn part(a: i128, g: i128) -> i128
     requires { pos 0 <ℤ g }
     ensures { result ≡ int_div a g }
 {
     a / g
+}
+
+// Both numbers, where both were formed.
+fn both(top: Option<i128>, bottom: Option<i128>) -> Option<(i128, i128)>
+    ensures { result ≡ both_of top bottom }
+{
+    match (top, bottom) {
+        (Some(t), Some(b)) => Some((t, b)),
+        _ => None,
+    }
 }
 
 // The numerator and the denominator of the product of a / b and c / d.
@@ -69,16 +81,7 @@ pub(crate) fn product(a: i128, b: i128, c: i128, d: i128) -> Option<(i128, i128)
     both(top, bottom)
 }
 
-fn both(top: Option<i128>, bottom: Option<i128>) -> Option<(i128, i128)>
-    ensures { result ≡ both_of top bottom }
-{
-    match (top, bottom) {
-        (Some(t), Some(b)) => Some((t, b)),
-        _ => None,
-    }
-}
-
-// The numerators of a / b and c / d over their least common denominator.
+// The numerators of a / b and c / d over their least common denominator, where g is the denominators' divisor.
 fn sides(a: i128, b: i128, c: i128, d: i128, g: i128) -> Option<(i128, i128)>
     requires { pos 0 <ℤ g }
     ensures { result ≡ sides_of a b c d g }
@@ -99,6 +102,7 @@ pub(crate) fn total(a: i128, b: i128, c: i128, d: i128) -> Option<(i128, i128)>
     }
 }
 
+// The parts of p + q over the least common denominator of b and d, where g is their divisor.
 fn reduced(p: i128, q: i128, b: i128, d: i128, g: i128) -> Option<(i128, i128)>
     requires { pos 0 <ℤ g }
     ensures { result ≡ reduced_parts p q b d g }
@@ -110,13 +114,6 @@ fn reduced(p: i128, q: i128, b: i128, d: i128, g: i128) -> Option<(i128, i128)>
         }
         None => None,
     }
-}
-
-// Whether the two fractions have the same parts.
-pub(crate) fn same(a: i128, b: i128, c: i128, d: i128) -> bool
-    ensures { result ≡ (int_eq a c && int_eq b d) }
-{
-    a == c && b == d
 }
 
 // The two sides of the comparison of a / b and c / d.
@@ -147,4 +144,11 @@ pub(crate) fn lowest(n: i128, d: i128) -> (i128, i128)
     let (top, bottom) = upright(n, d);
     let g = common(top, bottom);
     (part(top, g), part(bottom, g))
+}
+
+// Whether the two fractions have the same parts.
+pub(crate) fn same(a: i128, b: i128, c: i128, d: i128) -> bool
+    ensures { result ≡ (int_eq a c && int_eq b d) }
+{
+    a == c && b == d
 }

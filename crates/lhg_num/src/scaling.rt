@@ -47,6 +47,7 @@ fn is_refused(row: &[Frac], factor: &Frac) -> bool
     false
 }
 
+// The product, where it is not refused.
 fn product_of(entry: &Frac, factor: &Frac) -> Frac
     requires { frac_refuses_mul entry.now factor.now ≡ false }
     ensures { result ≡ mul entry.now factor.now }
