@@ -16,3 +16,4 @@ pub mod Solutions
 pub mod StaysInside
 pub mod StillFlow
 pub mod StillPlays
+pub mod Words

@@ -1,9 +1,10 @@
--- What do the definitions say of a thermostat, and of a tank in which nothing moves?
+-- What do the definitions say of a few names, of a thermostat, and of a tank in which nothing moves?
 use Rattle.std.specs.Prelude.{ℕ, pos, false, [], ◌∷◌, codes}
 use Rattle.lhg_math.specs.Number.{neg, nought, unit, whole}
 use Rattle.lhg_row.specs.Row.{PlainRow}
 use Rattle.lhg_row.specs.Piece.{PlainPiece}
 use Rattle.lhg_plant.specs.declared.plants.Side.TheVariants.{Ctl}
+use Rattle.lhg_plant.specs.Word.{IsName, IsVariable}
 use Rattle.lhg_plant.specs.Plant.{PlainPlant}
 use Rattle.lhg_plant.specs.State.{PlainState, IsState, IsSafe}
 use Rattle.lhg_plant.specs.Legal.{LegalSwitch}
@@ -13,6 +14,16 @@ use Rattle.lhg_plant.specs.Round.{InRound, IsRemovedIn}
 use Rattle.lhg_plant.specs.Region.{PlainRegion}
 use Rattle.lhg_plant.specs.Still.{still_rows, IsStill, HasNoSwitch}
 use Rattle.lhg_plant.specs.Solution.{IsSolution}
+
+-- names: a letter or `_` first, then digits too; `all` is a name, and not one of a variable
+pub record WordFacts : Type 0 where
+  pub level_1 : IsVariable (codes "level_1")
+  pub lone_line : IsVariable (codes "_")
+  pub digit_first : ¬ IsName (codes "1x")
+  pub empty : ¬ IsName []
+  pub long : ¬ IsName (codes "a_name_of_33_bytes_0123456789ABCD")
+  pub keyword : IsName (codes "all")
+  pub no_variable : ¬ IsVariable (codes "all")
 
 -- x <= n
 abbrev pub at_most : ℕ → PlainRow

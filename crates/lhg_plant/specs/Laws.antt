@@ -1,5 +1,5 @@
 -- Which laws does the safety game obey, for every plant?
-use Rattle.std.specs.Prelude.{◌≡◌, ◌≤◌, ◌↔◌, ◌⊎◌, ℕ, suc, List, [], Contains}
+use Rattle.std.specs.Prelude.{◌≡◌, ◌<◌, ◌≤◌, ◌↔◌, ◌⊎◌, ℕ, suc, List, [], length, Contains}
 use Rattle.lhg_row.specs.Play.{PlainMove, EachPoint}
 use Rattle.lhg_plant.specs.Plant.{PlainPlant}
 use Rattle.lhg_plant.specs.State.{PlainState, States, IsState, IsSafe}
@@ -14,6 +14,7 @@ use Rattle.lhg_plant.specs.Controller.{PlainController, IsValid}
 use Rattle.lhg_plant.specs.Run.{PlainEntry, PlainStep, RunPlace, IsRun}
 use Rattle.lhg_plant.specs.Solution.{InSomeLoss, IsSolution}
 use Rattle.lhg_plant.specs.Still.{IsStill, HasNoSwitch}
+use Rattle.lhg_plant.specs.Word.{IsName, IsVariable}
 use Rattle.lhg_plant.specs.Log.{EachVisited, IsLegalLog, IsFirstIllegal, StaysInside}
 
 -- whether a point is a state, is safe, is in a region or in a guard is decidable
@@ -87,3 +88,9 @@ pub record StillLaws (a : PlainPlant) : Type 0 where
   pub last : IsStill a → HasNoSwitch a → IsLastRound a 1
   pub solved : IsStill a → HasNoSwitch a → (r : PlainRegion) (g : PlainGuards) → ((s : PlainState) → InRegion a r s ↔ IsSafe a s)
       → IsSolution a (record { region = r; guards = g }) 1 []
+
+-- whether bytes are a name, and whether they are the name of a variable, is decidable; a name has at least one byte
+pub record WordLaws : Type 0 where
+  pub name : (bytes : List ℕ) → IsName bytes ⊎ ¬ IsName bytes
+  pub variable : (bytes : List ℕ) → IsVariable bytes ⊎ ¬ IsVariable bytes
+  pub some_byte : (bytes : List ℕ) → IsName bytes → 0 < length bytes

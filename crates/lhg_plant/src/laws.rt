@@ -7,8 +7,8 @@ ghost use Rattle.lhg_plant.specs.Round.{InRound};
 ghost use Rattle.lhg_plant.specs.Still.{IsStill, HasNoSwitch};
 ghost use Rattle.lhg_plant.specs.Controller.{PlainController};
 ghost use Rattle.lhg_plant.specs.Loss.{PlainLoss};
-ghost use Rattle.lhg_plant.specs.Example.{ThermostatFacts, TankFacts};
-ghost use Rattle.lhg_plant.specs.Laws.{MemberLaws, MonotoneLaws, RoundLaws, ValidLaws, RunLaws, LossLaws, SolvedLaw, StillLaws};
+ghost use Rattle.lhg_plant.specs.Example.{WordFacts, ThermostatFacts, TankFacts};
+ghost use Rattle.lhg_plant.specs.Laws.{MemberLaws, MonotoneLaws, RoundLaws, ValidLaws, RunLaws, LossLaws, SolvedLaw, StillLaws, WordLaws};
 
 use crate::sets::StateSet;
 
@@ -70,8 +70,14 @@ pub fn law_still_sets<T: StateSet, U: StateSet>(set: &T, past: &U)
     let _ = past;
 }
 
-/// What the definitions say of a thermostat, and of a tank in which nothing moves.
+/// Whether bytes are a name is decidable.
+pub fn law_words()
+    ensures { WordLaws }
+{}
+
+/// What the definitions say of a few names, of a thermostat, and of a tank in which nothing moves.
 pub fn law_example()
+    ensures words { WordFacts }
     ensures thermostat { ThermostatFacts }
     ensures tank { TankFacts }
 {}
