@@ -2,7 +2,11 @@
 #![tactic(auto)]
 
 pub mod calculus_laws;
+mod forms;
 pub mod laws;
 mod rows;
+mod values;
 
+pub use forms::{negate, relax, rename};
 pub use rows::{Kind, Point, Row};
+pub use values::{holds, shift};

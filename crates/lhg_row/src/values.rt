@@ -1,0 +1,81 @@
+// The value of a row at a point, and what follows from it.
+ghost use Rattle.std.specs.Prelude.{◌≡◌, length, map, IfOk};
+ghost use Rattle.std.specs.declared.cmp.Ordering.{Ordering};
+ghost use Rattle.lhg_math.specs.Number.{nought};
+ghost use Rattle.lhg_num.specs.Halting.{IsWideBy, IsHaltedByWide};
+ghost use Rattle.lhg_row.specs.Row.{PlainRow, PlainPoint, holds_at};
+ghost use Rattle.lhg_row.specs.Kinds as plain;
+ghost use Rattle.lhg_row.specs.Moves.{moved};
+ghost use Rattle.lhg_row.specs.Values as calculus;
+
+use crate::rows::{Kind, Point, Row};
+use lhg_num::{Halt, Scalar, Wide};
+use std::alloc::Global;
+use std::cmp::Ordering;
+
+/// Whether the row holds at the point. It answers `Wide` only where the value of the row at the point, or its
+/// comparison with the bound, applies an operation to operands that it refuses.
+pub fn holds<N: Scalar>(row: &Row<N>, point: &Point<N>) -> Result<bool, Wide>
+    requires { length row.now.coefs ≡ length point.now }
+    ensures calculus { IsWideBy result (calculus.truth N.arithmetic row.now point.now) (λ b. b) }
+    ensures exact { IfOk result (λ b. b ≡ holds_at row.now point.now) }
+{
+    let sum = value(&row.coefs, &point.at)?;
+    let order = sum.cmp(&row.bound)?;
+    Ok(fits(row.kind, order))
+}
+
+/// The row that holds at x exactly where the old one holds at x + m * by.
+pub fn shift<N: Scalar>(alloc: Global, row: &Row<N>, by: &Point<N>, m: &N) -> Result<Row<N>, Halt>
+    requires { length row.now.coefs ≡ length by.now }
+    ensures calculus { IsHaltedByWide result (calculus.shift N.arithmetic row.now by.now (N.meaning m.now)) (λ r. r) }
+    ensures points { IfOk result (λ r. (x : PlainPoint) → length x ≡ length by.now → holds_at r x ≡ holds_at row.now (moved x (N.meaning m.now) by.now)) }
+{
+    let bound = shifted_bound(row, by, m)?;
+    Ok(Row {
+        coefs: Vec::from_slice(alloc, &row.coefs)?,
+        kind: row.kind,
+        bound,
+    })
+}
+
+// The bound less m times the value of the row at the point.
+fn shifted_bound<N: Scalar>(row: &Row<N>, by: &Point<N>, m: &N) -> Result<N, Wide>
+    requires { length row.now.coefs ≡ length by.now }
+    ensures { IsWideBy result (calculus.shifted_bound N.arithmetic row.now by.now (N.meaning m.now)) N.meaning }
+{
+    let sum = value(&row.coefs, &by.at)?;
+    let product = m.mul(&sum)?;
+    row.bound.sub(&product)
+}
+
+// The sum of the products, from the first to the last.
+fn value<N: Scalar>(coefs: &[N], at: &[N]) -> Result<N, Wide>
+    requires { length coefs.now ≡ length at.now }
+    ensures { IsWideBy result (calculus.marked_value N.arithmetic nought (map N.meaning coefs.now) (map N.meaning at.now)) N.meaning }
+{
+    let mut sum = N::zero();
+    for i in 0..coefs.len() {
+        sum = plus_product(&sum, &coefs[i], &at[i])?;
+    }
+    Ok(sum)
+}
+
+// sum + c * x
+fn plus_product<N: Scalar>(sum: &N, c: &N, x: &N) -> Result<N, Wide>
+    ensures { IsWideBy result (calculus.plus_product N.arithmetic (N.meaning sum.now) (N.meaning c.now) (N.meaning x.now)) N.meaning }
+{
+    let product = c.mul(x)?;
+    sum.add(&product)
+}
+
+// Whether a row of this kind holds where its value has this order against its bound.
+fn fits(kind: Kind, order: Ordering) -> bool
+    ensures { result ≡ calculus.fits_order (plain.is_strict kind) order }
+{
+    match order {
+        Ordering::Less => true,
+        Ordering::Equal => !kind.is_strict(),
+        Ordering::Greater => false,
+    }
+}
