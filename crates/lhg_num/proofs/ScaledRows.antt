@@ -9,7 +9,7 @@ use Rattle.lhg_math.specs.Tests.{any_of, by_bool}
 use Rattle.lhg_num.specs.Limits.{IsExact, frac_refuses_mul, frac_refuses_canon}
 use Rattle.lhg_num.specs.FracCanon.{canon_frac}
 
--- the same by recursion on the row
+-- one more entry of a row is done, by recursion on the row
 set_step : (f : Number → Number) (old : List Number) (i : ℕ) (x y : Number) → i < length old → x ≡ get_or (map f (take i old) ++ drop i old) i x → y ≡ f x
     → set (map f (take i old) ++ drop i old) i y ≡ map f (take (suc i) old) ++ drop (suc i) old
 set_step f [] i x y h g k = absurd (omega arith)
@@ -42,7 +42,7 @@ map-times : (s : Number) (xs : List Number) → map (λ x. mul x (inverse s)) xs
 map-times s [] = refl
 map-times s (x ∷ xs) = ap (λ y. y ∷ map (λ z. mul z (inverse s)) xs) (sym (quot-is x s)) ∙ ap (λ ys. quot x s ∷ ys) (map-times s xs)
 
--- the same for the leading size itself
+-- a row scaled by the inverse of the size of its leading entry
 by_size : {T E : Type 0} (r : Result T E) (row new : List Number) → is_nought (lead row) ≡ false
     → IsExact r (any_of (λ x. frac_refuses_mul x (inverse (size_of (lead row)))) row) (λ _. new ≡ map (λ x. mul x (inverse (size_of (lead row)))) row)
     → IsExact r (frac_refuses_canon row) (λ _. new ≡ canon_frac row)

@@ -4,7 +4,9 @@ use Rattle.lhg_num.specs.Marked.{Marked}
 use Rattle.lhg_num.specs.declared.refusals.Halt.{Halt}
 use Rattle.lhg_num.specs.declared.refusals.Halt.TheVariants.{Wide, Rows, Pieces, Memory}
 
--- the calculus gives the value, and it is past the named limit where the call halts for one: halts: Wide, Rows, Pieces
+-- An answer is the value that the calculus gives, and each halt but want of memory is tied to its own mark.
+
+-- a call that may halt for numbers, rows and pieces
 abbrev pub IsHaltedBy : {T A : Type 0} → Result T Halt → Marked A → (T → A) → Type 0
 IsHaltedBy (Ok x) m f = f x ≡ m.value
 IsHaltedBy (Err Wide) m f = m.wide ≡ true
@@ -12,7 +14,7 @@ IsHaltedBy (Err Rows) m f = m.rows ≡ true
 IsHaltedBy (Err Pieces) m f = m.pieces ≡ true
 IsHaltedBy (Err Memory) m f = Unit {0}
 
--- halts: Wide, Rows
+-- a call that may halt for numbers and rows
 abbrev pub IsHaltedByRows : {T A : Type 0} → Result T Halt → Marked A → (T → A) → Type 0
 IsHaltedByRows (Ok x) m f = f x ≡ m.value
 IsHaltedByRows (Err Wide) m f = m.wide ≡ true
@@ -20,7 +22,7 @@ IsHaltedByRows (Err Rows) m f = m.rows ≡ true
 IsHaltedByRows (Err Pieces) m f = ⊥
 IsHaltedByRows (Err Memory) m f = Unit {0}
 
--- halts: Wide
+-- a call that may halt for numbers
 abbrev pub IsHaltedByWide : {T A : Type 0} → Result T Halt → Marked A → (T → A) → Type 0
 IsHaltedByWide (Ok x) m f = f x ≡ m.value
 IsHaltedByWide (Err Wide) m f = m.wide ≡ true
@@ -28,12 +30,12 @@ IsHaltedByWide (Err Rows) m f = ⊥
 IsHaltedByWide (Err Pieces) m f = ⊥
 IsHaltedByWide (Err Memory) m f = Unit {0}
 
--- answers Wide alone
+-- a call that may answer Wide alone
 abbrev pub IsWideBy : {T E A : Type 0} → Result T E → Marked A → (T → A) → Type 0
 IsWideBy (Ok x) m f = f x ≡ m.value
 IsWideBy (Err e) m f = m.wide ≡ true
 
--- halts: Pieces
+-- a call that may halt for pieces
 abbrev pub IsHaltedByPieces : {T A : Type 0} → Result T Halt → Marked A → (T → A) → Type 0
 IsHaltedByPieces (Ok x) m f = f x ≡ m.value
 IsHaltedByPieces (Err Wide) m f = ⊥
@@ -41,7 +43,7 @@ IsHaltedByPieces (Err Rows) m f = ⊥
 IsHaltedByPieces (Err Pieces) m f = m.pieces ≡ true
 IsHaltedByPieces (Err Memory) m f = Unit {0}
 
--- halts for want of memory alone
+-- a call that may halt for want of memory alone
 abbrev pub IsHaltedByMemory : {T A : Type 0} → Result T Halt → Marked A → (T → A) → Type 0
 IsHaltedByMemory (Ok x) m f = f x ≡ m.value
 IsHaltedByMemory (Err Wide) m f = ⊥
