@@ -1,0 +1,17 @@
+pub mod Bytes
+pub mod ContentFronts
+pub mod FirstRun
+pub mod Fronts
+pub mod LineReadings
+pub mod LiteralLemmas
+pub mod LiteralValues
+pub mod LongestLemmas
+pub mod NumberLengths
+pub mod ReadingAnswers
+pub mod ReadingSteps
+pub mod Runs
+pub mod Scanning
+pub mod TextLines
+pub mod TextSlices
+pub mod TokenStarts
+pub mod Values

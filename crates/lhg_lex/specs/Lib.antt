@@ -1,0 +1,12 @@
+pub mod Digits
+pub mod FirstBad
+pub mod LineReading
+pub mod LineTokens
+pub mod Lines
+pub mod Literal
+pub mod Longest
+pub mod PlainToken
+pub mod Reading
+pub mod TextTokens
+pub mod Token
+pub mod Word
