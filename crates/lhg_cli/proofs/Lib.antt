@@ -1,0 +1,9 @@
+pub mod Appended
+pub mod Complete
+pub mod Members
+pub mod RegionTexts
+pub mod RowTerms
+pub mod RowTexts
+pub mod SmallRegion
+pub mod SmallSolution
+pub mod WholeOrder

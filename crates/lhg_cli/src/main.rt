@@ -1,0 +1,33 @@
+//! Safety controllers for linear hybrid automata.
+#![tactic(auto)]
+
+mod answers;
+mod kept;
+mod numbers;
+mod pieces;
+mod rows;
+mod status;
+mod still;
+#[cfg(test)]
+mod tests;
+mod top;
+
+use lhg_io::{StdSink, StdSource};
+pub use status::Status;
+use std::process::ExitCode;
+use std::{env, io};
+pub use top::lhg;
+
+fn main(rt: HostRuntime) -> ExitCode {
+    let Ok(args) = env::args(&rt) else {
+        return ExitCode::from(Status::Words as u8);
+    };
+    let Ok(words) = args.skip(1).collect(rt.alloc()) else {
+        return ExitCode::from(Status::Memory as u8);
+    };
+    let words: Vec<String> = words;
+    let mut source = StdSource::new(rt.reader());
+    let mut sink = StdSink::new(io::writer(&rt));
+    let status = lhg(rt.alloc(), words.as_slice(), &mut source, &mut sink);
+    ExitCode::from(status as u8)
+}
