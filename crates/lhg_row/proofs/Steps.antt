@@ -1,10 +1,13 @@
 -- What is left of a list after a place, and of a calculation after a step?
-use Rattle.std.proofs.Common.{◌≡◌, ℕ, zero, suc, ◌+◌, ◌<◌, List, [], ◌∷◌, length, map, drop, get_or, refl, sym, ap, ◌∙◌, subst, arith, add-one, true, false, Result, Ok, Err}
-use Rattle.std.specs.Result.{IsErr}
-use Rattle.lhg_num.specs.Halting.{IsWideBy}
+use Rattle.std.proofs.Common.{◌≡◌, ℕ, zero, suc, ◌+◌, ◌<◌, List, [], ◌∷◌, length, map, drop, get_or, refl, sym, ◌∙◌, subst, arith, add-one, Bool, true, false, ◌||◌, Result, Ok, Err}
+use Rattle.std.specs.Result.{IsErr, IsErrAnd}
+use Rattle.lhg_num.specs.Halting.{IsWideBy, IsHaltedByWide, IsHaltedByRows}
+use Rattle.lhg_num.specs.declared.refusals.Halt.{Halt}
+use Rattle.lhg_num.proofs.Halted.{rows_from_wide, part_halts_rows}
 use Rattle.lhg_math.specs.Number.{Number}
+use Rattle.lhg_math.specs.Tests.{false_true}
 use Rattle.lhg_num.specs.Arithmetic.{Arithmetic}
-use Rattle.lhg_num.specs.Marked.{Marked, and_then, IsRest}
+use Rattle.lhg_num.specs.Marked.{Marked, done, and_then, IsRest}
 use Rattle.lhg_num.specs.MarkedLaws.{IsPart, rest_rest, rest_part, and_then-rest, and_then-part}
 use Rattle.lhg_row.specs.Values.{plus_product, marked_value}
 
@@ -33,6 +36,11 @@ pub wide_on : {T E A B : Type 0} (r : Result T E) (whole : Marked A) (f : T → 
 wide_on (Ok x) whole f part h p k = let e : false ≡ true = h in cc
 wide_on (Err e) whole f part h p k = p.wide k
 
+-- a halt of a call that halts for Wide alone is handed on by one that halts for Wide and Rows
+pub rows_on_wide : {T U A B : Type 0} (r : Result T Halt) (e : Halt) (whole : Marked A) (f : T → A) (part : Marked B) (h : U → B)
+    → IsErrAnd r (λ d. d ≡ e) → IsHaltedByWide {T = U} (Err e) part h → IsPart whole part → IsHaltedByRows r whole f
+rows_on_wide {T} {U} r e whole f part h i k p = part_halts_rows r e whole f part h i (rows_from_wide {T = U} (Err e) part h k) p
+
 -- ---- the value of a row at a point
 module _ {N : Type 0} (m : N → Number) (a : Arithmetic) (s : N) (cs xs : List N) (i : ℕ) (c x : N) (c_is : c ≡ get_or cs i c) (x_is : x ≡ get_or xs i x) (in_cs : i < length cs) (in_xs : i < length xs)
     (whole : Marked Number) (r : IsRest whole (marked_value a (m s) (drop i (map m cs)) (drop i (map m xs)))) where
@@ -48,3 +56,24 @@ module _ {N : Type 0} (m : N → Number) (a : Arithmetic) (s : N) (cs xs : List 
 
   pub value-part : IsPart whole (plus_product a (m s) (m c) (m x))
   value-part = step_part whole (plus_product a (m s) (m c) (m x)) (λ u. marked_value a u (drop (i + 1) (map m cs)) (drop (i + 1) (map m xs))) here
+
+-- ---- marks of two calculations with one first step
+or_more : (a b c : Bool) → (b ≡ true → c ≡ true) → (a || b) ≡ true → (a || c) ≡ true
+or_more true b c f h = refl
+or_more false b c f h = f h
+
+-- what has no marks is a part of everything
+pub done-part : {A B : Type 0} (whole : Marked A) (x : B) → IsPart whole (done x)
+done-part whole x = record { wide = λ h. false_true h; rows = λ h. false_true h; pieces = λ h. false_true h }
+
+-- a part after one step is a part of all
+pub then-part : {A B C : Type 0} (m : Marked A) (f : A → Marked B) (g : A → Marked C) → IsPart (f m.value) (g m.value) → IsPart (and_then m f) (and_then m g)
+then-part m f g p = record {
+  wide = or_more m.wide (g m.value).wide (f m.value).wide p.wide;
+  rows = or_more m.rows (g m.value).rows (f m.value).rows p.rows;
+  pieces = or_more m.pieces (g m.value).pieces (f m.value).pieces p.pieces;
+}
+
+-- what is left is a part
+pub rest_is_part : {A : Type 0} (whole rest : Marked A) → IsRest whole rest → IsPart whole rest
+rest_is_part whole rest r = record { wide = r.wide; rows = r.rows; pieces = r.pieces }

@@ -35,8 +35,10 @@ pub mod PlayLemmas
 pub mod Row
 pub mod Segment
 pub mod SegmentLemmas
+pub mod Senses
 pub mod Speed
 pub mod SpeedLemmas
+pub mod System
 pub mod Trim
 pub mod TrimLaws
 pub mod ValueLaws

@@ -1,5 +1,5 @@
 -- What is a list of rows after trim?
-use Rattle.std.specs.Prelude.{ℕ, ◌-◌, Bool, true, false, cond, not, ◌&&◌, ◌||◌, nat_lt, List, [], ◌∷◌, ◌++◌, length, take, get_or, filter}
+use Rattle.std.specs.Prelude.{ℕ, ◌+◌, ◌-◌, Bool, true, false, cond, not, ◌&&◌, ◌||◌, nat_lt, List, [], ◌∷◌, ◌++◌, length, take, get_or, filter, Option, Some, None}
 use Rattle.std.specs.declared.cmp.Ordering.{Ordering}
 use Rattle.std.specs.declared.cmp.Ordering.TheVariants.{Less, Equal, Greater}
 use Rattle.lhg_math.specs.Number.{Number, nought}
@@ -71,6 +71,14 @@ placed a r (s ∷ ss) =
     let here = valued (λ o. tighter o s r ∷ ss) (bound_order a r s) in
     let later = valued (λ ts. s ∷ ts) (placed a r ss) in
     cond same here later)
+
+-- the place, counted from j, of the first kept row that has the direction of r
+abbrev pub place_along : Arithmetic → PlainRow → ℕ → PlainPiece → Marked (Option ℕ)
+place_along a r j [] = done None
+place_along a r j (s ∷ ss) =
+    and_then (same_direction a r s) (λ same.
+    let later = place_along a r (j + 1) ss in
+    cond same (done (Some j)) later)
 
 -- ---- trim
 -- each row put among those before it

@@ -9,6 +9,11 @@ use Rattle.lhg_row.specs.Constant.{varies, is_nothing}
 abbrev pub AllWide : ℕ → PlainPiece → Type 0
 AllWide n rows = AllOf (λ r. length r.coefs ≡ n) rows
 
+-- the rows have one number of coefficients
+pub record HasWidth (rows : PlainPiece) : Type 0 where
+  pub width : ℕ
+  pub wide : AllWide width rows
+
 -- the one row 0 < 0, or rows of which each has a variable
 abbrev pub IsTidy : PlainPiece → Type 0
 IsTidy rows = (is_nothing rows ≡ true) ⊎ Every varies rows

@@ -28,7 +28,8 @@ canon-wide a n r laws w =
     by_bool (is_constant r) (λ e. rw e w)
     (λ e. rw e (ap (λ (q : PlainRow). length q.coefs) (row_of-canon a r laws) ∙ length-map r.coefs (λ x. mul (scaled_multiple a (entries_of r) laws).factor x) ∙ w))
 
-canons-wide : (a : Arithmetic) (n : ℕ) (rows : PlainPiece) → IsLawful a → AllWide n rows → AllWide n (each (canon a) rows).value
+-- canon of each row keeps the width
+pub canons-wide : (a : Arithmetic) (n : ℕ) (rows : PlainPiece) → IsLawful a → AllWide n rows → AllWide n (each (canon a) rows).value
 canons-wide a n [] laws w = tt
 canons-wide a n (r ∷ rows) laws w = (canon-wide a n r laws w.0, canons-wide a n rows laws w.1)
 
@@ -48,7 +49,8 @@ placed-wide a n r [] h w = (h, tt)
 placed-wide a n r (s ∷ ss) h w =
     by_bool (same_direction a r s).value (λ e. rw e (tighter-wide (bound_order a r s).value n s r w.0 h, w.1)) (λ e. rw e (w.0, placed-wide a n r ss h w.1))
 
-gathered-wide : (a : Arithmetic) (n : ℕ) (ks rows : PlainPiece) → AllWide n ks → AllWide n rows → AllWide n (gathered a ks rows).value
+-- gathered rows of one width have it
+pub gathered-wide : (a : Arithmetic) (n : ℕ) (ks rows : PlainPiece) → AllWide n ks → AllWide n rows → AllWide n (gathered a ks rows).value
 gathered-wide a n ks [] v w = v
 gathered-wide a n ks (r ∷ rows) v w = gathered-wide a n (placed a r ks).value rows (placed-wide a n r ks w.0 v) w.1
 

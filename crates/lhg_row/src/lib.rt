@@ -5,8 +5,13 @@ pub mod calculus_laws;
 mod forms;
 pub mod laws;
 mod rows;
+pub mod scaling;
+mod systems;
+mod trimming;
 mod values;
 
 pub use forms::{negate, relax, rename};
 pub use rows::{Kind, Point, Row};
+pub use systems::System;
+pub use trimming::{ROW_LIMIT, trim};
 pub use values::{holds, shift};

@@ -1,4 +1,4 @@
-use Rattle.std.proofs.Common.{◌≡◌, ◌<◌, ◌∙◌, length, map, arith, subst, sym}
+use Rattle.std.proofs.Common.{◌<◌, ◌∙◌, length, map, arith}
 use Rattle.std.proofs.lemmas.List.{length-map}
 use Rattle.lhg_row.proofs.FormSteps.{found, passed, image_at}
 use Rattle.lhg_row.proofs.forms.coef_for.Goals as goal
