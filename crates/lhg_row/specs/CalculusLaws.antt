@@ -8,6 +8,9 @@ use Rattle.lhg_row.specs.Values.{truth, shift}
 use Rattle.lhg_row.specs.Moves.{negated, moved, renamed, picked}
 use Rattle.lhg_row.specs.Trim.{trim}
 use Rattle.lhg_row.specs.Width.{AllWide, IsTidy}
+use Rattle.lhg_row.specs.Column.{coef_at}
+use Rattle.lhg_row.specs.Combine.{comb}
+use Rattle.lhg_row.specs.Combination.{AreOpposed, IsCombination}
 use Rattle.lhg_row.specs.Eliminate.{eliminate, is_empty}
 use Rattle.lhg_row.specs.HasValue.{IsElimination, IsEmptiness}
 use Rattle.lhg_row.specs.NothingLaws.{eliminated}
@@ -26,6 +29,11 @@ pub record TrimLaws : Type 0 where
   pub points : (a : Arithmetic) (rows : PlainPiece) (x : PlainPoint) → IsLawful a → in_piece (trim a rows).value x ≡ in_piece rows x
   pub wide : (a : Arithmetic) (n : ℕ) (rows : PlainPiece) → IsLawful a → AllWide n rows → AllWide n (trim a rows).value
   pub tidy : (a : Arithmetic) (rows : PlainPiece) → IsTidy (trim a rows).value
+
+-- the combination of two rows with opposite signs at a variable says what some value of the variable would say
+abbrev pub CombLaw : Type 0
+CombLaw = (a : Arithmetic) (k : ℕ) (r s : PlainRow) → length r.coefs ≡ length s.coefs → k < length r.coefs → AreOpposed (coef_at k r) (coef_at k s)
+    → IsCombination k r s (comb a r s k).value
 
 -- eliminate is exact and leaves a tidy list over one variable less; its first step is no exception
 pub record EliminateLaws : Type 0 where

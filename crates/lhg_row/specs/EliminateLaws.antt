@@ -23,12 +23,13 @@ use Rattle.lhg_row.specs.Width.{AllWide}
 use Rattle.lhg_row.specs.HasValue.{HasValue}
 use Rattle.lhg_row.specs.Trim.{trim}
 use Rattle.lhg_row.specs.TrimLaws.{trim-holds}
-use Rattle.lhg_row.specs.Eliminate.{Pair, partner, each_joined, combinations, without, pair_at, eliminate}
+use Rattle.lhg_row.specs.Eliminate.{row_at, beside, partner, with_lowers, each_joined, combinations, without, pair_at, eliminate}
 use Rattle.lhg_row.specs.Bars.{Bar, meets, stands, comb_bar, meets_upper, meets_lower, stands_comb, level_meets}
 use Rattle.lhg_row.specs.ColumnLaws.{bar_at, holds-insert, holds-drop_column, holds-comb}
 use Rattle.lhg_row.specs.WithoutLaws.{paired, paired_has_value, has_value_paired}
-use Rattle.lhg_row.specs.PairLaws.{IsPair, HasPair, pair_at-is}
-use Rattle.lhg_row.specs.PairPoints.{up_down, down_up, cancel_up, cancel_down, ArePair, are_pair}
+use Rattle.lhg_row.specs.Combination.{up_down, down_up}
+use Rattle.lhg_row.specs.PairLaws.{IsPair, HasPair, pair_at-is, in_piece-beside, levels-beside, beside-wide}
+use Rattle.lhg_row.specs.PairPoints.{cancel_up, cancel_down, ArePair, are_pair}
 
 -- ---- the order of two rows in a combination
 entries_comm : (a : Arithmetic) (f g : Number) (cs ds : List Number) → (entries a f g cs ds).value ≡ (entries a g f ds cs).value
@@ -110,95 +111,101 @@ module _ (a : Arithmetic) (k n : ℕ) (rows : PlainPiece) (x : PlainPoint) (in_n
   row_meets : (r : PlainRow) (v : Number) → length r.coefs ≡ n → holds_at r (insert x k v) ≡ meets (bar_at k x r) v
   row_meets r v w = holds-insert r k v x (omega (arith, w)) (w ∙ n_is)
 
-  module _ (p : Pair) (is : IsPair a k n rows p) (wide : AllWide n rows) where
-    pair : ArePair (bar_at k x p.one) (bar_at k x p.other)
-    pair = are_pair a k p.one p.other x is.there_one is.there_other is.weak_one is.weak_other is.opposite
+  module _ (i j : ℕ) (is : IsPair a k rows i j) (wide : AllWide n rows) where
+    abbrev one : PlainRow
+    one = row_at rows i
+
+    abbrev other : PlainRow
+    other = row_at rows j
+
+    pair : ArePair (bar_at k x one) (bar_at k x other)
+    pair = are_pair a k one other x is.there_one is.there_other is.weak_one is.weak_other is.opposite
 
     -- one row beside the pair: its combination holds exactly where it holds at the value of the pair
-    beside : (r : PlainRow) → length r.coefs ≡ n → level_at k r ≡ false
-        → holds_at (drop_column k (comb a r (partner k p r) k).value) x ≡ meets (bar_at k x r) (quot (bar_at k x p.one).slack (bar_at k x p.one).coef)
-    beside r w e =
-        let b = bar_at k x p.one in
-        let c = bar_at k x p.other in
+    one_beside : (r : PlainRow) → length r.coefs ≡ n → level_at k r ≡ false
+        → holds_at (drop_column k (comb a r (partner k one other r) k).value) x ≡ meets (bar_at k x r) (quot (bar_at k x one).slack (bar_at k x one).coef)
+    one_beside r w e =
+        let b = bar_at k x one in
+        let c = bar_at k x other in
         let v = quot b.slack b.coef in
-        let wp = is.wide wide in
-        let one_r : length r.coefs ≡ length p.one.coefs = w ∙ sym wp.0 in
-        let other_r : length r.coefs ≡ length p.other.coefs = w ∙ sym wp.1 in
+        let wp = beside-wide a k rows i j is n wide in
+        let one_r : length r.coefs ≡ length one.coefs = w ∙ sym wp.0 in
+        let other_r : length r.coefs ≡ length other.coefs = w ∙ sym wp.1 in
         let in_r : k < length r.coefs = omega (arith, w) in
-        let in_one : k < length p.one.coefs = omega (arith, wp.0) in
-        let in_other : k < length p.other.coefs = omega (arith, wp.1) in
+        let in_one : k < length one.coefs = omega (arith, wp.0) in
+        let in_other : k < length other.coefs = omega (arith, wp.1) in
         by_bool (upper_at k r)
         (λ u. elim pair.opposed [
-          | up_down i j ↦ rw (u, i) (holds-comb a r p.other k x other_r in_r u j ∙ upper_by (bar_at k x r) c v u j is.weak_other (y_met b c pair))
-          | down_up i j ↦ let n1 = lt_asym (coef_at k p.one) nought i in rw (u, n1) (holds-comb a r p.one k x one_r in_r u i ∙ upper_by (bar_at k x r) b v u i is.weak_one (x_met b c pair))
+          | up_down p q ↦ rw (u, p) (holds-comb a r other k x other_r in_r u q ∙ upper_by (bar_at k x r) c v u q is.weak_other (y_met b c pair))
+          | down_up p q ↦ let n1 = lt_asym (coef_at k one) nought p in rw (u, n1) (holds-comb a r one k x one_r in_r u p ∙ upper_by (bar_at k x r) b v u p is.weak_one (x_met b c pair))
         ])
         (λ u.
         let d : lt (coef_at k r) nought ≡ true = by_bool (lt (coef_at k r) nought) (λ f. f) (λ f. false_true (sym (sym (rw (f, u) refl) ∙ e))) in
         elim pair.opposed [
-          | up_down i j ↦ rw (u, i) (ap (λ (q : PlainRow). holds_at (drop_column k q) x) (comb_comm a r p.one k) ∙ holds-comb a p.one r k x (sym one_r) in_one i d ∙ lower_by (bar_at k x r) b v d i is.weak_one (x_met b c pair))
-          | down_up i j ↦ let n1 = lt_asym (coef_at k p.one) nought i in
-              rw (u, n1) (ap (λ (q : PlainRow). holds_at (drop_column k q) x) (comb_comm a r p.other k) ∙ holds-comb a p.other r k x (sym other_r) in_other j d ∙ lower_by (bar_at k x r) c v d j is.weak_other (y_met b c pair))
+          | up_down p q ↦ rw (u, p) (ap (λ (t : PlainRow). holds_at (drop_column k t) x) (comb_comm a r one k) ∙ holds-comb a one r k x (sym one_r) in_one p d ∙ lower_by (bar_at k x r) b v d p is.weak_one (x_met b c pair))
+          | down_up p q ↦ let n1 = lt_asym (coef_at k one) nought p in
+              rw (u, n1) (ap (λ (t : PlainRow). holds_at (drop_column k t) x) (comb_comm a r other k) ∙ holds-comb a other r k x (sym other_r) in_other q d ∙ lower_by (bar_at k x r) c v d q is.weak_other (y_met b c pair))
         ])
 
     -- all rows beside the pair
     all_beside : (rs : PlainPiece) → AllWide n rs
-        → (in_piece (map (drop_column k) (filter (level_at k) rs)) x && in_piece (map (drop_column k) (map (λ r. (comb a r (partner k p r) k).value) (filter (λ r. not (level_at k r)) rs))) x)
-        ≡ in_piece rs (insert x k (quot (bar_at k x p.one).slack (bar_at k x p.one).coef))
+        → (in_piece (map (drop_column k) (filter (level_at k) rs)) x && in_piece (map (drop_column k) (map (λ r. (comb a r (partner k one other r) k).value) (filter (λ r. not (level_at k r)) rs))) x)
+        ≡ in_piece rs (insert x k (quot (bar_at k x one).slack (bar_at k x one).coef))
     all_beside [] w = refl
     all_beside (r ∷ rs) w =
-        let v = quot (bar_at k x p.one).slack (bar_at k x p.one).coef in
+        let v = quot (bar_at k x one).slack (bar_at k x one).coef in
         let l = in_piece (map (drop_column k) (filter (level_at k) rs)) x in
-        let c = in_piece (map (drop_column k) (map (λ s. (comb a s (partner k p s) k).value) (filter (λ s. not (level_at k s)) rs))) x in
+        let c = in_piece (map (drop_column k) (map (λ s. (comb a s (partner k one other s) k).value) (filter (λ s. not (level_at k s)) rs))) x in
         by_bool (level_at k r)
         (λ e.
         let h : holds_at (drop_column k r) x ≡ holds_at r (insert x k v) = holds-drop_column r k x ∙ sym (level_meets (bar_at k x r) v e) ∙ sym (row_meets r v w.0) in
         rw e (and_assoc (holds_at (drop_column k r) x) l c ∙ ap (λ b. b && (l && c)) h ∙ ap (λ b. holds_at r (insert x k v) && b) (all_beside rs w.1)))
         (λ e.
-        let h : holds_at (drop_column k (comb a r (partner k p r) k).value) x ≡ holds_at r (insert x k v) = beside r w.0 e ∙ sym (row_meets r v w.0) in
-        rw e (and_left_comm l (holds_at (drop_column k (comb a r (partner k p r) k).value) x) c ∙ ap (λ b. b && (l && c)) h ∙ ap (λ b. holds_at r (insert x k v) && b) (all_beside rs w.1)))
+        let h : holds_at (drop_column k (comb a r (partner k one other r) k).value) x ≡ holds_at r (insert x k v) = one_beside r w.0 e ∙ sym (row_meets r v w.0) in
+        rw e (and_left_comm l (holds_at (drop_column k (comb a r (partner k one other r) k).value) x) c ∙ ap (λ b. b && (l && c)) h ∙ ap (λ b. holds_at r (insert x k v) && b) (all_beside rs w.1)))
 
-    list_is : in_piece (without a k rows (Some p)).value x ≡ in_piece p.others (insert x k (quot (bar_at k x p.one).slack (bar_at k x p.one).coef))
+    list_is : in_piece (without a k rows (Some (i, j))).value x ≡ in_piece (beside rows i j) (insert x k (quot (bar_at k x one).slack (bar_at k x one).coef))
     list_is =
-        let c = λ (r : PlainRow). (comb a r (partner k p r) k).value in
-        let ks = filter (λ (r : PlainRow). not (level_at k r)) p.others in
-        ap (λ xs. in_piece (map (drop_column k) (xs ++ (combinations a k rows (Some p)).value)) x) is.levels
-        ∙ ap (λ ys. in_piece (map (drop_column k) (filter (level_at k) p.others ++ ys)) x) (each-value (λ r. comb a r (partner k p r) k) ks)
-        ∙ ap (λ zs. in_piece zs x) (map-append (drop_column k) (filter (level_at k) p.others) (map c ks))
-        ∙ in_piece-append (map (drop_column k) (filter (level_at k) p.others)) (map (drop_column k) (map c ks)) x
-        ∙ all_beside p.others (is.wide wide).2
+        let c = λ (r : PlainRow). (comb a r (partner k one other r) k).value in
+        let ks = filter (λ (r : PlainRow). not (level_at k r)) (beside rows i j) in
+        ap (λ xs. in_piece (map (drop_column k) (xs ++ (combinations a k rows (Some (i, j))).value)) x) (levels-beside a k rows i j is)
+        ∙ ap (λ ys. in_piece (map (drop_column k) (filter (level_at k) (beside rows i j) ++ ys)) x) (each-value (λ r. comb a r (partner k one other r) k) ks)
+        ∙ ap (λ zs. in_piece zs x) (map-append (drop_column k) (filter (level_at k) (beside rows i j)) (map c ks))
+        ∙ in_piece-append (map (drop_column k) (filter (level_at k) (beside rows i j))) (map (drop_column k) (map c ks)) x
+        ∙ all_beside (beside rows i j) (beside-wide a k rows i j is n wide).2
 
-    pair-has_value : in_piece (without a k rows (Some p)).value x ≡ true → HasValue k rows x
+    pair-has_value : in_piece (without a k rows (Some (i, j))).value x ≡ true → HasValue k rows x
     pair-has_value h =
-        let b = bar_at k x p.one in
+        let b = bar_at k x one in
         let v = quot b.slack b.coef in
-        let one_holds = row_meets p.one v (is.wide wide).0 ∙ x_meets b (bar_at k x p.other) pair in
-        let other_holds = row_meets p.other v (is.wide wide).1 ∙ y_meets b (bar_at k x p.other) pair in
+        let one_holds = row_meets one v (beside-wide a k rows i j is n wide).0 ∙ x_meets b (bar_at k x other) pair in
+        let other_holds = row_meets other v (beside-wide a k rows i j is n wide).1 ∙ y_meets b (bar_at k x other) pair in
         let others_hold = sym list_is ∙ h in
-        record { value = v; holds = every_from_all (λ r. holds_at r (insert x k v)) rows (is.hold (insert x k v) ∙ rw (one_holds, other_holds, others_hold) refl) }
+        record { value = v; holds = every_from_all (λ r. holds_at r (insert x k v)) rows (in_piece-beside a k rows i j is (insert x k v) ∙ rw (one_holds, other_holds, others_hold) refl) }
 
-    has_value-pair : HasValue k rows x → in_piece (without a k rows (Some p)).value x ≡ true
+    has_value-pair : HasValue k rows x → in_piece (without a k rows (Some (i, j))).value x ≡ true
     has_value-pair h =
-        let b = bar_at k x p.one in
-        let c = bar_at k x p.other in
-        let all = sym (is.hold (insert x k h.value)) ∙ all_from_every (λ r. holds_at r (insert x k h.value)) rows h.holds in
-        let s = and_parts (holds_at p.one (insert x k h.value)) _ all in
-        let t = and_parts (holds_at p.other (insert x k h.value)) (in_piece p.others (insert x k h.value)) s.1 in
-        let e = decided b c pair h.value (sym (row_meets p.one h.value (is.wide wide).0) ∙ s.0) (sym (row_meets p.other h.value (is.wide wide).1) ∙ t.0) in
-        list_is ∙ ap (λ v. in_piece p.others (insert x k v)) (sym e) ∙ t.1
+        let b = bar_at k x one in
+        let c = bar_at k x other in
+        let all = sym (in_piece-beside a k rows i j is (insert x k h.value)) ∙ all_from_every (λ r. holds_at r (insert x k h.value)) rows h.holds in
+        let s = and_parts (holds_at one (insert x k h.value)) _ all in
+        let t = and_parts (holds_at other (insert x k h.value)) (in_piece (beside rows i j) (insert x k h.value)) s.1 in
+        let e = decided b c pair h.value (sym (row_meets one h.value (beside-wide a k rows i j is n wide).0) ∙ s.0) (sym (row_meets other h.value (beside-wide a k rows i j is n wide).1) ∙ t.0) in
+        list_is ∙ ap (λ v. in_piece (beside rows i j) (insert x k v)) (sym e) ∙ t.1
 
   -- without a pair the list is that of all combinations
-  no_pair : (ups lows : PlainPiece) → (each_joined (λ u. each (λ l. comb a u l k) lows) ups).value ≡ flat_map (λ u. map (λ l. (comb a u l k).value) lows) ups
-  no_pair [] lows = refl
-  no_pair (u ∷ ups) lows =
-      ap (λ xs. xs ++ (each_joined (λ u. each (λ l. comb a u l k) lows) ups).value) (each-value (λ l. comb a u l k) lows)
-      ∙ ap (λ xs. map (λ l. (comb a u l k).value) lows ++ xs) (no_pair ups lows)
+  no_pair : (ups : PlainPiece) → (each_joined (with_lowers a k rows) ups).value ≡ flat_map (λ u. map (λ l. (comb a u l k).value) (filter (lower_at k) rows)) ups
+  no_pair [] = refl
+  no_pair (u ∷ ups) =
+      ap (λ xs. xs ++ (each_joined (with_lowers a k rows) ups).value) (each-value (λ l. comb a u l k) (filter (lower_at k) rows))
+      ∙ ap (λ xs. map (λ l. (comb a u l k).value) (filter (lower_at k) rows) ++ xs) (no_pair ups)
 
-  list_exact : (o : Option Pair) → HasPair a k n rows o → AllWide n rows
+  list_exact : (o : Option (ℕ × ℕ)) → HasPair a k rows o → AllWide n rows
       → (in_piece (without a k rows o).value x ≡ true → HasValue k rows x) × (HasValue k rows x → in_piece (without a k rows o).value x ≡ true)
-  list_exact (Some p) is w = (pair-has_value p is w, has_value-pair p is w)
+  list_exact (Some p) is w = (pair-has_value p.0 p.1 is w, has_value-pair p.0 p.1 is w)
   list_exact None is w =
       let e : in_piece (without a k rows None).value x ≡ in_piece (paired a k rows) x =
-      ap (λ xs. in_piece (map (drop_column k) (filter (level_at k) rows ++ xs)) x) (no_pair (filter (upper_at k) rows) (filter (lower_at k) rows)) in (
+      ap (λ xs. in_piece (map (drop_column k) (filter (level_at k) rows ++ xs)) x) (no_pair (filter (upper_at k) rows)) in (
         λ h. paired_has_value a k n x in_n n_is rows w (every_from_all (λ r. holds_at r x) (paired a k rows) (sym e ∙ h)),
         λ h. e ∙ all_from_every (λ r. holds_at r x) (paired a k rows) (has_value_paired a k n x in_n n_is rows w h),
       )
@@ -218,9 +225,9 @@ pub eliminate-exact : (a : Arithmetic) (k n : ℕ) (rows : PlainPiece) (x : Plai
     → InPiece (eliminate a k rows).value x ↔ HasValue k rows x
 unfolding eliminate
 eliminate-exact a k n rows x laws i e w =
-    let o = (pair_at a k rows).value in
+    let o = (pair_at a k 0 rows).value in
     let list = (without a k rows o).value in
-    let f = list_exact a k n rows x i e o (pair_at-is a k n rows) w in
+    let f = list_exact a k n rows x i e o (pair_at-is a k rows) w in
     let t : in_piece (trim a list).value x ≡ in_piece list x = trim-holds a list x laws in
     by_bool (is_nothing rows)
     (λ g. rw g (

@@ -6,7 +6,9 @@ pub mod CheckPlaces
 pub mod CheckPoint
 pub mod Column
 pub mod ColumnLaws
+pub mod Combination
 pub mod Combine
+pub mod CombineLaws
 pub mod Constant
 pub mod ConstantLaws
 pub mod Convex

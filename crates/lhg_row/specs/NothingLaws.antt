@@ -42,7 +42,7 @@ without-never a k n = rw (noughts-get_or n k, lt_irrefl nought) refl
 
 -- all that eliminate does beside its first step
 abbrev pub eliminated : Arithmetic → ℕ → PlainPiece → Marked PlainPiece
-eliminated a k rows = and_then (pair_at a k rows) (λ p. and_then (without a k rows p) (trim a))
+eliminated a k rows = and_then (pair_at a k 0 rows) (λ p. and_then (without a k rows p) (trim a))
 
 eliminated-nothing : (a : Arithmetic) (k m : ℕ) (rows : PlainPiece) → k < suc m → AllWide (suc m) rows → is_nothing rows ≡ true
     → done (map (drop_column k) rows) ≡ eliminated a k rows

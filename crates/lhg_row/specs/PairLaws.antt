@@ -1,113 +1,175 @@
 -- What is found as a pair, and what are the rows beside it?
-use Rattle.std.specs.Prelude.{◌≡◌, ℕ, Bool, true, false, cond, ◌||◌, ◌&&◌, [], ◌∷◌, length, filter, Option, Some, None}
-use Rattle.std.proofs.Common.{refl, sym, ap, ◌∙◌}
+use Rattle.std.specs.Prelude.{◌≡◌, ℕ, zero, suc, ◌+◌, ◌<◌, Bool, true, false, cond, not, ◌||◌, ◌&&◌, List, [], ◌∷◌, ◌++◌, length, filter, get_or, remove, Option, Some, None}
+use Rattle.std.proofs.Common.{refl, sym, ap, ◌∙◌, arith, subst}
 use Rattle.std.proofs.Math.Bool.{and_comm, and_assoc}
-use Rattle.std.proofs.lemmas.Bool.{or_parts}
-use Rattle.lhg_math.specs.Tests.{by_bool}
+use Rattle.std.proofs.lemmas.Bool.{or_parts, not-true}
+use Rattle.std.proofs.lemmas.List.Edits.{get_or-remove_below, length-remove}
+use Rattle.lhg_math.specs.Tests.{by_bool, false_true}
 use Rattle.lhg_num.specs.Arithmetic.{Arithmetic}
-use Rattle.lhg_num.specs.Marked.{Marked, valued}
+use Rattle.lhg_num.specs.Marked.{Marked}
 use Rattle.lhg_row.specs.Row.{PlainRow, PlainPoint, holds_at}
 use Rattle.lhg_row.specs.Piece.{PlainPiece, in_piece}
 use Rattle.lhg_row.specs.Column.{level_at}
+use Rattle.lhg_row.specs.Constant.{never}
 use Rattle.lhg_row.specs.Width.{AllWide}
-use Rattle.lhg_row.specs.Eliminate.{is_opposite, Pair, behind, mate, or_else, pair_at}
+use Rattle.lhg_row.specs.Eliminate.{is_opposite, is_candidate, is_mate, mate_at, mate_of, or_else, pair_at, row_at, beside}
 
+-- ---- a list without one of its rows
 and_left_comm : (a b c : Bool) → (a && (b && c)) ≡ (b && (a && c))
 and_left_comm a b c = sym (and_assoc a b c) ∙ ap (λ d. d && c) (and_comm a b) ∙ and_assoc b a c
 
--- what a row and its mate are
-record IsMate (a : Arithmetic) (k n : ℕ) (r : PlainRow) (rows : PlainPiece) (p : Pair) : Type 0 where
-  one_is : p.one ≡ r
-  opposite : (is_opposite a r p.other).value ≡ true
-  weak : p.other.strict ≡ false
-  there : level_at k p.other ≡ false
-  hold : (x : PlainPoint) → in_piece rows x ≡ (holds_at p.other x && in_piece p.others x)
-  levels : filter (level_at k) rows ≡ filter (level_at k) p.others
-  wide : AllWide n rows → (length p.other.coefs ≡ n) × AllWide n p.others
+-- a list holds where one of its rows and the others do
+pub in_piece-remove : (i : ℕ) (rows : PlainPiece) (x : PlainPoint) → i < length rows → in_piece rows x ≡ (holds_at (row_at rows i) x && in_piece (remove rows i) x)
+in_piece-remove i [] x h = absurd (omega arith)
+in_piece-remove zero (r ∷ rows) x h = refl
+in_piece-remove (suc i) (r ∷ rows) x h = ap (λ b. holds_at r x && b) (in_piece-remove i rows x (omega arith)) ∙ and_left_comm (holds_at r x) (holds_at (row_at rows i) x) (in_piece (remove rows i) x)
 
-abbrev HasMate : Arithmetic → ℕ → ℕ → PlainRow → PlainPiece → Option Pair → Type 0
-HasMate a k n r rows None = Unit {0}
-HasMate a k n r rows (Some p) = IsMate a k n r rows p
+-- the others have the width of the list, and so has the one
+pub remove-wide : (n i : ℕ) (rows : PlainPiece) → i < length rows → AllWide n rows → (length (row_at rows i).coefs ≡ n) × AllWide n (remove rows i)
+remove-wide n i [] h w = absurd (omega arith)
+remove-wide n zero (r ∷ rows) h w = (w.0, w.1)
+remove-wide n (suc i) (r ∷ rows) h w = let v = remove-wide n i rows (omega arith) w.1 in (v.0, (w.0, v.1))
 
-behind-mate : (a : Arithmetic) (k n : ℕ) (r s : PlainRow) (rows : PlainPiece) (o : Option Pair) → HasMate a k n r rows o → HasMate a k n r (s ∷ rows) (behind (s ∷ []) o)
-behind-mate a k n r s rows None h = tt
-behind-mate a k n r s rows (Some p) h = record {
-  one_is = h.one_is;
-  opposite = h.opposite;
-  weak = h.weak;
-  there = h.there;
-  hold = λ x. ap (λ b. holds_at s x && b) (h.hold x) ∙ and_left_comm (holds_at s x) (holds_at p.other x) (in_piece p.others x);
-  levels = ap (λ ls. cond (level_at k s) (s ∷ ls) ls) h.levels;
-  wide = λ w. let v = h.wide w.1 in (v.0, (w.0, v.1));
-}
+-- a filter does not see a row that fails its test
+pub filter-remove : (p : PlainRow → Bool) (i : ℕ) (rows : PlainPiece) → i < length rows → p (row_at rows i) ≡ false → filter p rows ≡ filter p (remove rows i)
+filter-remove p i [] h e = absurd (omega arith)
+filter-remove p zero (r ∷ rows) h e = rw e refl
+filter-remove p (suc i) (r ∷ rows) h e = ap (λ rs. cond (p r) (r ∷ rs) rs) (filter-remove p i rows (omega arith) e)
 
-mate-is : (a : Arithmetic) (k n : ℕ) (r : PlainRow) (rows : PlainPiece) → HasMate a k n r rows (mate a k r rows).value
-mate-is a k n r [] = tt
-mate-is a k n r (s ∷ ss) =
-    let later = behind-mate a k n r s ss (mate a k r ss).value (mate-is a k n r ss) in
-    by_bool (s.strict || level_at k s)
+-- ---- the mate of a row
+-- a row that may be of the pair is weak and has the variable
+candidate-is : (k : ℕ) (r : PlainRow) → is_candidate k r ≡ true → (r.strict ≡ false) × (level_at k r ≡ false)
+candidate-is k r h = or_parts r.strict (level_at k r) (not-true (r.strict || level_at k r) h)
+
+-- what is found as a mate
+record IsMate (a : Arithmetic) (k : ℕ) (r : PlainRow) (rows : PlainPiece) (i : ℕ) : Type 0 where
+  in_list : i < length rows
+  opposite : (is_opposite a r (row_at rows i)).value ≡ true
+  weak : (row_at rows i).strict ≡ false
+  there : level_at k (row_at rows i) ≡ false
+
+-- the same of a mate that may be there, its place being counted from j
+abbrev HasMate : Arithmetic → ℕ → PlainRow → ℕ → PlainPiece → Option ℕ → Type 0
+HasMate a k r j rows None = Unit {0}
+HasMate a k r j rows (Some m) = (i : ℕ) × (m ≡ j + i) × IsMate a k r rows i
+
+later-mate : (a : Arithmetic) (k : ℕ) (r : PlainRow) (j : ℕ) (s : PlainRow) (rows : PlainPiece) (o : Option ℕ) → HasMate a k r (j + 1) rows o → HasMate a k r j (s ∷ rows) o
+later-mate a k r j s rows None h = tt
+later-mate a k r j s rows (Some m) (i, e, h) = (suc i, omega arith, record { in_list = let l = h.in_list in omega arith; opposite = h.opposite; weak = h.weak; there = h.there })
+
+first-mate : (a : Arithmetic) (k : ℕ) (r : PlainRow) (j : ℕ) (s : PlainRow) (rows : PlainPiece) → (is_mate a k r s).value ≡ true → HasMate a k r j (s ∷ rows) (Some j)
+first-mate a k r j s rows h =
+    by_bool (is_candidate k s)
+    (λ e. let o : (is_opposite a r s).value ≡ true = rw e at h in let c = candidate-is k s e in
+    (0, omega arith, record { in_list = omega arith; opposite = o; weak = c.0; there = c.1 }))
+    (λ e. let z : false ≡ true = rw e at h in false_true z)
+
+mate_at-is : (a : Arithmetic) (k : ℕ) (r : PlainRow) (j : ℕ) (rows : PlainPiece) → HasMate a k r j rows (mate_at a k r j rows).value
+mate_at-is a k r j [] = tt
+mate_at-is a k r j (s ∷ ss) =
+    by_bool (is_mate a k r s).value
+    (λ e. rw e (first-mate a k r j s ss e))
+    (λ e. rw e (later-mate a k r j s ss (mate_at a k r (j + 1) ss).value (mate_at-is a k r (j + 1) ss)))
+
+-- ---- the pair
+-- two weak rows over the variable that are opposite, at two places of the list
+pub record IsPair (a : Arithmetic) (k : ℕ) (rows : PlainPiece) (i j : ℕ) : Type 0 where
+  pub in_order : i < j
+  pub in_list : j < length rows
+  pub opposite : (is_opposite a (row_at rows i) (row_at rows j)).value ≡ true
+  pub weak_one : (row_at rows i).strict ≡ false
+  pub weak_other : (row_at rows j).strict ≡ false
+  pub there_one : level_at k (row_at rows i) ≡ false
+  pub there_other : level_at k (row_at rows j) ≡ false
+
+-- the same of a pair that may be there, its places being counted from n
+abbrev IsFound : Arithmetic → ℕ → ℕ → PlainPiece → Option (ℕ × ℕ) → Type 0
+IsFound a k n rows None = Unit {0}
+IsFound a k n rows (Some p) = (i : ℕ) × (j : ℕ) × (p.0 ≡ n + i) × (p.1 ≡ n + j) × IsPair a k rows i j
+
+later-pair : (a : Arithmetic) (k n : ℕ) (r : PlainRow) (rows : PlainPiece) (o : Option (ℕ × ℕ)) → IsFound a k (n + 1) rows o → IsFound a k n (r ∷ rows) o
+later-pair a k n r rows None h = tt
+later-pair a k n r rows (Some p) (i, j, e, f, h) = (
+  suc i,
+  suc j,
+  omega arith,
+  omega arith,
+  record {
+    in_order = let o = h.in_order in omega arith;
+    in_list = let l = h.in_list in omega arith;
+    opposite = h.opposite;
+    weak_one = h.weak_one;
+    weak_other = h.weak_other;
+    there_one = h.there_one;
+    there_other = h.there_other;
+  },
+)
+
+or_else-is : (a : Arithmetic) (k n : ℕ) (r : PlainRow) (rows : PlainPiece) (o : Option ℕ) (later : Marked (Option (ℕ × ℕ))) → is_candidate k r ≡ true → HasMate a k r (n + 1) rows o
+    → IsFound a k n (r ∷ rows) later.value → IsFound a k n (r ∷ rows) (or_else n o later).value
+or_else-is a k n r rows None later c m h = h
+or_else-is a k n r rows (Some j) later c (i, e, m) h =
+    let d = candidate-is k r c in (
+      0,
+      suc i,
+      omega arith,
+      omega arith,
+      record {
+        in_order = omega arith;
+        in_list = let l = m.in_list in omega arith;
+        opposite = m.opposite;
+        weak_one = d.0;
+        weak_other = m.weak;
+        there_one = d.1;
+        there_other = m.there;
+      },
+    )
+
+found : (a : Arithmetic) (k n : ℕ) (rows : PlainPiece) → IsFound a k n rows (pair_at a k n rows).value
+found a k n [] = tt
+found a k n (r ∷ rs) =
+    let later = later-pair a k n r rs (pair_at a k (n + 1) rs).value (found a k (n + 1) rs) in
+    by_bool (is_candidate k r)
+    (λ e. rw e (or_else-is a k n r rs (mate_at a k r (n + 1) rs).value (pair_at a k (n + 1) rs) e (mate_at-is a k r (n + 1) rs) later))
     (λ e. rw e later)
-    (λ e. let f = or_parts s.strict (level_at k s) e in
-    by_bool (is_opposite a r s).value
-    (λ o. rw (e, o) (record {
-      one_is = refl;
-      opposite = o;
-      weak = f.0;
-      there = f.1;
-      hold = λ x. refl;
-      levels = rw f.1 refl;
-      wide = λ w. (w.0, w.1);
-    }))
-    (λ o. rw (e, o) later))
 
--- a pair is two weak rows over the variable that are opposite, and with the rows beside it it is the list
-pub record IsPair (a : Arithmetic) (k n : ℕ) (rows : PlainPiece) (p : Pair) : Type 0 where
-  pub opposite : (is_opposite a p.one p.other).value ≡ true
-  pub weak_one : p.one.strict ≡ false
-  pub weak_other : p.other.strict ≡ false
-  pub there_one : level_at k p.one ≡ false
-  pub there_other : level_at k p.other ≡ false
-  pub hold : (x : PlainPoint) → in_piece rows x ≡ (holds_at p.one x && (holds_at p.other x && in_piece p.others x))
-  pub levels : filter (level_at k) rows ≡ filter (level_at k) p.others
-  pub wide : AllWide n rows → (length p.one.coefs ≡ n) × (length p.other.coefs ≡ n) × AllWide n p.others
-
--- the same of a pair that may be there
-abbrev pub HasPair : Arithmetic → ℕ → ℕ → PlainPiece → Option Pair → Type 0
-HasPair a k n rows None = Unit {0}
-HasPair a k n rows (Some p) = IsPair a k n rows p
-
-behind-pair : (a : Arithmetic) (k n : ℕ) (s : PlainRow) (rows : PlainPiece) (o : Option Pair) → HasPair a k n rows o → HasPair a k n (s ∷ rows) (behind (s ∷ []) o)
-behind-pair a k n s rows None h = tt
-behind-pair a k n s rows (Some p) h = record {
-  opposite = h.opposite;
-  weak_one = h.weak_one;
-  weak_other = h.weak_other;
-  there_one = h.there_one;
-  there_other = h.there_other;
-  hold = λ x. ap (λ b. holds_at s x && b) (h.hold x) ∙ and_left_comm (holds_at s x) (holds_at p.one x) (holds_at p.other x && in_piece p.others x) ∙ ap (λ b. holds_at p.one x && b) (and_left_comm (holds_at s x) (holds_at p.other x) (in_piece p.others x));
-  levels = ap (λ ls. cond (level_at k s) (s ∷ ls) ls) h.levels;
-  wide = λ w. let v = h.wide w.1 in (v.0, v.1, (w.0, v.2));
-}
-
-of_mate : (a : Arithmetic) (k n : ℕ) (r : PlainRow) (rows : PlainPiece) (o : Option Pair) (later : Marked (Option Pair)) → r.strict ≡ false → level_at k r ≡ false
-    → HasMate a k n r rows o → HasPair a k n (r ∷ rows) later.value → HasPair a k n (r ∷ rows) (or_else o later).value
-of_mate a k n r rows None later h i m l = l
-of_mate a k n r rows (Some p) later h i m l = record {
-  opposite = rw m.one_is m.opposite;
-  weak_one = rw m.one_is h;
-  weak_other = m.weak;
-  there_one = rw m.one_is i;
-  there_other = m.there;
-  hold = λ x. ap (λ b. holds_at r x && b) (m.hold x) ∙ ap (λ (q : PlainRow). holds_at q x && (holds_at p.other x && in_piece p.others x)) (sym m.one_is);
-  levels = rw i m.levels;
-  wide = λ w. let v = m.wide w.1 in (rw m.one_is w.0, v.0, v.1);
-}
+-- what may be there is a pair
+abbrev pub HasPair : Arithmetic → ℕ → PlainPiece → Option (ℕ × ℕ) → Type 0
+HasPair a k rows None = Unit {0}
+HasPair a k rows (Some p) = IsPair a k rows p.0 p.1
 
 -- what the search finds is a pair
-pub pair_at-is : (a : Arithmetic) (k n : ℕ) (rows : PlainPiece) → HasPair a k n rows (pair_at a k rows).value
-pair_at-is a k n [] = tt
-pair_at-is a k n (r ∷ rs) =
-    let later = behind-pair a k n r rs (pair_at a k rs).value (pair_at-is a k n rs) in
-    by_bool (r.strict || level_at k r)
-    (λ e. rw e later)
-    (λ e. let f = or_parts r.strict (level_at k r) e in rw e (of_mate a k n r rs (mate a k r rs).value (valued (behind (r ∷ [])) (pair_at a k rs)) f.0 f.1 (mate-is a k n r rs) later))
+pub pair_at-is : (a : Arithmetic) (k : ℕ) (rows : PlainPiece) → HasPair a k rows (pair_at a k 0 rows).value
+pair_at-is a k rows = counted_from_0 (pair_at a k 0 rows).value (found a k 0 rows)
+  where
+    counted_from_0 : (o : Option (ℕ × ℕ)) → IsFound a k 0 rows o → HasPair a k rows o
+    counted_from_0 None h = tt
+    counted_from_0 (Some p) (i, j, e, f, h) =
+        let x : i ≡ p.0 = omega arith in
+        let y : j ≡ p.1 = omega arith in
+        subst (λ m. IsPair a k rows p.0 m) y (subst (λ m. IsPair a k rows m j) x h)
+
+-- ---- the rows beside a pair
+module _ (a : Arithmetic) (k : ℕ) (rows : PlainPiece) (i j : ℕ) (h : IsPair a k rows i j) where
+  one_is : row_at (remove rows j) i ≡ row_at rows i
+  one_is = get_or-remove_below rows j (never 0) i h.in_order h.in_list
+
+  one_there : i < length (remove rows j)
+  one_there = let l = length-remove rows j h.in_list in let o = h.in_order in let p = h.in_list in omega arith
+
+  -- the list holds where the two rows of the pair and the others do
+  pub in_piece-beside : (x : PlainPoint) → in_piece rows x ≡ (holds_at (row_at rows i) x && (holds_at (row_at rows j) x && in_piece (beside rows i j) x))
+  in_piece-beside x =
+      in_piece-remove j rows x h.in_list ∙ ap (λ b. holds_at (row_at rows j) x && b) (in_piece-remove i (remove rows j) x one_there ∙ ap (λ (r : PlainRow). holds_at r x && in_piece (beside rows i j) x) one_is)
+      ∙ and_left_comm (holds_at (row_at rows j) x) (holds_at (row_at rows i) x) (in_piece (beside rows i j) x)
+
+  -- no row without the variable is of the pair
+  pub levels-beside : filter (level_at k) rows ≡ filter (level_at k) (beside rows i j)
+  levels-beside = filter-remove (level_at k) j rows h.in_list h.there_other ∙ filter-remove (level_at k) i (remove rows j) one_there (ap (level_at k) one_is ∙ h.there_one)
+
+  -- all have one width
+  pub beside-wide : (n : ℕ) → AllWide n rows → (length (row_at rows i).coefs ≡ n) × (length (row_at rows j).coefs ≡ n) × AllWide n (beside rows i j)
+  beside-wide n w =
+      let v = remove-wide n j rows h.in_list w in
+      let u = remove-wide n i (remove rows j) one_there v.1 in
+      (ap (λ (r : PlainRow). length r.coefs) (sym one_is) ∙ u.0, v.0, u.1)

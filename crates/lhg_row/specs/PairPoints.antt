@@ -12,6 +12,7 @@ use Rattle.lhg_num.specs.Arithmetic.{Arithmetic}
 use Rattle.lhg_row.specs.Row.{PlainRow, PlainPoint, row_value}
 use Rattle.lhg_row.specs.Column.{coef_at, level_at}
 use Rattle.lhg_row.specs.Constant.{is_constant}
+use Rattle.lhg_row.specs.Combination.{AreOpposed, up_down, down_up}
 use Rattle.lhg_row.specs.ValueLaws.{value-scaled}
 use Rattle.lhg_row.specs.Trim.{lead_size, agree}
 use Rattle.lhg_row.specs.TrimLaws.{agree-same}
@@ -20,11 +21,6 @@ use Rattle.lhg_row.specs.Bars.{Bar}
 use Rattle.lhg_row.specs.ColumnLaws.{bar_at}
 
 -- ---- signs
--- the numbers have opposite signs, and neither is 0
-pub data AreOpposed (c d : Number) : Type 0 where
-  up_down : lt nought c ≡ true → lt d nought ≡ true → AreOpposed c d
-  down_up : lt c nought ≡ true → lt nought d ≡ true → AreOpposed c d
-
 -- a positive factor cancels
 pub cancel_up : (c x y : Number) → lt nought c ≡ true → mul c x ≡ mul c y → x ≡ y
 cancel_up c x y h e =

@@ -1,5 +1,5 @@
 -- How many coefficients have the rows of a list, and which lists may trim leave?
-use Rattle.std.specs.Prelude.{◌≡◌, ◌⊎◌, ℕ, true, length}
+use Rattle.std.specs.Prelude.{◌≡◌, ◌<◌, ◌⊎◌, ℕ, true, length}
 use Rattle.lhg_math.specs.Tests.{Every}
 use Rattle.lhg_row.specs.Piece.{PlainPiece}
 use Rattle.lhg_row.specs.Members.{AllOf}
@@ -12,6 +12,12 @@ AllWide n rows = AllOf (λ r. length r.coefs ≡ n) rows
 -- the rows have one number of coefficients
 pub record HasWidth (rows : PlainPiece) : Type 0 where
   pub width : ℕ
+  pub wide : AllWide width rows
+
+-- and k is one of their variables
+pub record HasVariable (k : ℕ) (rows : PlainPiece) : Type 0 where
+  pub width : ℕ
+  pub there : k < width
   pub wide : AllWide width rows
 
 -- the one row 0 < 0, or rows of which each has a variable

@@ -18,9 +18,9 @@ use Rattle.lhg_row.specs.Width.{AllWide, IsTidy}
 use Rattle.lhg_row.specs.Combine.{comb, entries}
 use Rattle.lhg_row.specs.Trim.{entries_of, canon, same_direction, bound_order, tighter, placed, gathered, settled, trim}
 use Rattle.lhg_row.specs.TrimLaws.{row_of-canon, gathered-varies}
-use Rattle.lhg_row.specs.Eliminate.{Pair, partner, each_joined, combinations, without, pair_at, eliminate}
+use Rattle.lhg_row.specs.Eliminate.{row_at, beside, same_side, partner, with_lowers, each_joined, combinations, without, pair_at, eliminate}
 use Rattle.lhg_row.specs.WithoutLaws.{filter-wide}
-use Rattle.lhg_row.specs.PairLaws.{HasPair, pair_at-is}
+use Rattle.lhg_row.specs.PairLaws.{HasPair, pair_at-is, beside-wide}
 
 -- ---- trim
 canon-wide : (a : Arithmetic) (n : ℕ) (r : PlainRow) → IsLawful a → length r.coefs ≡ n → length (canon a r).value.coefs ≡ n
@@ -103,38 +103,38 @@ module _ (a : Arithmetic) (k n : ℕ) where
   with_lows u [] h w = tt
   with_lows u (l ∷ lows) h w = (comb-wide u l h w.0, with_lows u lows h w.1)
 
-  all_pairs : (ups lows : PlainPiece) → AllWide n ups → AllWide n lows → AllWide n (each_joined (λ u. each (λ l. comb a u l k) lows) ups).value
-  all_pairs [] lows v w = tt
-  all_pairs (u ∷ ups) lows v w = append-wide n (each (λ l. comb a u l k) lows).value _ (with_lows u lows v.0 w) (all_pairs ups lows v.1 w)
+  all_pairs : (rows ups : PlainPiece) → AllWide n rows → AllWide n ups → AllWide n (each_joined (with_lowers a k rows) ups).value
+  all_pairs rows [] w v = tt
+  all_pairs rows (u ∷ ups) w v =
+      append-wide n (with_lowers a k rows u).value _ (with_lows u (filter (lower_at k) rows) v.0 (filter-wide n (lower_at k) rows w)) (all_pairs rows ups w v.1)
 
   -- the partner of a row has the width of the pair
-  pub partner-wide : (p : Pair) (r : PlainRow) → length p.one.coefs ≡ n → length p.other.coefs ≡ n → length (partner k p r).coefs ≡ n
-  partner-wide p r h i =
-      by_bool (upper_at k r)
-      (λ e. by_bool (upper_at k p.one) (λ f. rw (e, f) i) (λ f. rw (e, f) h))
-      (λ e. by_bool (upper_at k p.one) (λ f. rw (e, f) h) (λ f. rw (e, f) i))
+  pub partner-wide : (one other r : PlainRow) → length one.coefs ≡ n → length other.coefs ≡ n → length (partner k one other r).coefs ≡ n
+  partner-wide one other r h i = by_bool (same_side k r one) (λ e. rw e i) (λ e. rw e h)
 
-  with_partner : (p : Pair) (rs : PlainPiece) → length p.one.coefs ≡ n → length p.other.coefs ≡ n → AllWide n rs → AllWide n (each (λ r. comb a r (partner k p r) k) rs).value
-  with_partner p [] h i w = tt
-  with_partner p (r ∷ rs) h i w = (comb-wide r (partner k p r) w.0 (partner-wide p r h i), with_partner p rs h i w.1)
+  with_partner : (one other : PlainRow) (rs : PlainPiece) → length one.coefs ≡ n → length other.coefs ≡ n → AllWide n rs → AllWide n (each (λ r. comb a r (partner k one other r) k) rs).value
+  with_partner one other [] h i w = tt
+  with_partner one other (r ∷ rs) h i w = (comb-wide r (partner k one other r) w.0 (partner-wide one other r h i), with_partner one other rs h i w.1)
 
-  combinations-wide : (rows : PlainPiece) (o : Option Pair) → HasPair a k n rows o → AllWide n rows → AllWide n (combinations a k rows o).value
-  combinations-wide rows None is w = all_pairs (filter (upper_at k) rows) (filter (lower_at k) rows) (filter-wide n (upper_at k) rows w) (filter-wide n (lower_at k) rows w)
-  combinations-wide rows (Some p) is w = let v = is.wide w in with_partner p (filter (λ r. not (level_at k r)) p.others) v.0 v.1 (filter-wide n (λ r. not (level_at k r)) p.others v.2)
+  combinations-wide : (rows : PlainPiece) (o : Option (ℕ × ℕ)) → HasPair a k rows o → AllWide n rows → AllWide n (combinations a k rows o).value
+  combinations-wide rows None is w = all_pairs rows (filter (upper_at k) rows) w (filter-wide n (upper_at k) rows w)
+  combinations-wide rows (Some p) is w =
+      let v = beside-wide a k rows p.0 p.1 is n w in
+      with_partner (row_at rows p.0) (row_at rows p.1) (filter (λ r. not (level_at k r)) (beside rows p.0 p.1)) v.0 v.1 (filter-wide n (λ r. not (level_at k r)) (beside rows p.0 p.1) v.2)
 
 -- the rows without a variable and the combinations have one coefficient less
-pub without-wide : (a : Arithmetic) (k m : ℕ) (rows : PlainPiece) → k < suc m → AllWide (suc m) rows → AllWide m (without a k rows (pair_at a k rows).value).value
+pub without-wide : (a : Arithmetic) (k m : ℕ) (rows : PlainPiece) → k < suc m → AllWide (suc m) rows → AllWide m (without a k rows (pair_at a k 0 rows).value).value
 without-wide a k m rows h w =
-    let o = (pair_at a k rows).value in
+    let o = (pair_at a k 0 rows).value in
     drop-wide k m (filter (level_at k) rows ++ (combinations a k rows o).value) h
-    (append-wide (suc m) (filter (level_at k) rows) (combinations a k rows o).value (filter-wide (suc m) (level_at k) rows w) (combinations-wide a k (suc m) rows o (pair_at-is a k (suc m) rows) w))
+    (append-wide (suc m) (filter (level_at k) rows) (combinations a k rows o).value (filter-wide (suc m) (level_at k) rows w) (combinations-wide a k (suc m) rows o (pair_at-is a k rows) w))
 
 -- and so has what eliminate leaves
 pub eliminate-wide : (a : Arithmetic) (k m : ℕ) (rows : PlainPiece) → IsLawful a → k < suc m → AllWide (suc m) rows → AllWide m (eliminate a k rows).value
 unfolding eliminate
 eliminate-wide a k m rows laws h w =
     by_bool (is_nothing rows) (λ f. rw f (drop-wide k m rows h w))
-    (λ f. rw f (trim-wide a m (without a k rows (pair_at a k rows).value).value laws (without-wide a k m rows h w)))
+    (λ f. rw f (trim-wide a m (without a k rows (pair_at a k 0 rows).value).value laws (without-wide a k m rows h w)))
 
 nothing-dropped : (k m : ℕ) (rows : PlainPiece) → k < suc m → AllWide (suc m) rows → is_nothing rows ≡ true → is_nothing (map (drop_column k) rows) ≡ true
 nothing-dropped k m [] i w h = h
@@ -147,4 +147,4 @@ pub eliminate-tidy : (a : Arithmetic) (k m : ℕ) (rows : PlainPiece) → k < su
 unfolding eliminate
 eliminate-tidy a k m rows h w =
     by_bool (is_nothing rows) (λ f. rw f (inl (nothing-dropped k m rows h w f)))
-    (λ f. rw f (trim-tidy a (without a k rows (pair_at a k rows).value).value))
+    (λ f. rw f (trim-tidy a (without a k rows (pair_at a k 0 rows).value).value))

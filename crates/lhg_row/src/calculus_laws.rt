@@ -1,5 +1,5 @@
 // What callers may rest on: the laws of the calculus of rows, and known rows.
-ghost use Rattle.lhg_row.specs.CalculusLaws.{RowLaws, TrimLaws, EliminateLaws, EmptyLaw};
+ghost use Rattle.lhg_row.specs.CalculusLaws.{RowLaws, TrimLaws, CombLaw, EliminateLaws, EmptyLaw};
 ghost use Rattle.lhg_row.specs.Worked.{TrimRows, EliminateRows, EmptyRows, MarkRows};
 
 /// Where negated, shifted and renamed rows hold.
@@ -10,6 +10,11 @@ pub fn law_rows()
 /// Trimmed lists have the points of the lists that they come from.
 pub fn law_trim()
     ensures { TrimLaws }
+{}
+
+/// The combination of two rows is exact.
+pub fn law_comb()
+    ensures { CombLaw }
 {}
 
 /// Elimination of one variable, and emptiness, are exact.
