@@ -74,9 +74,9 @@ pub comb-exact : (a : Arithmetic) (k : ℕ) (r s : PlainRow) → length r.coefs 
 comb-exact a k r s e h o = record {
   cancels = comb_cancels a k r s e h o;
   holds = λ x l.
-    let left = all_left a k r s o in
-    let w : AllWide (length r.coefs) (r ∷ s ∷ []) = (refl, (sym e, tt)) in (
-      λ q. paired_has_value a k (length r.coefs) x h (sym l) (r ∷ s ∷ []) w (subst (λ rows. InPiece rows x) (sym left) (q, tt)),
-      λ v. let q : InPiece (drop_column k (comb a r s k).value ∷ []) x = subst (λ rows. InPiece rows x) left (has_value_paired a k (length r.coefs) x h (sym l) (r ∷ s ∷ []) w v) in q.0,
-    );
+      let left = all_left a k r s o in
+      let w : AllWide (length r.coefs) (r ∷ s ∷ []) = (refl, (sym e, tt)) in (
+        λ q. paired_has_value a k (length r.coefs) x h (sym l) (r ∷ s ∷ []) w (subst (λ rows. InPiece rows x) (sym left) (q, tt)),
+        λ v. let q : InPiece (drop_column k (comb a r s k).value ∷ []) x = subst (λ rows. InPiece rows x) left (has_value_paired a k (length r.coefs) x h (sym l) (r ∷ s ∷ []) w v) in q.0,
+      );
 }
