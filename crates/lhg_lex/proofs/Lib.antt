@@ -1,7 +1,9 @@
 pub mod Bytes
 pub mod ContentFronts
+pub mod FirstBadProofs
 pub mod FirstRun
 pub mod Fronts
+pub mod LineLawProofs
 pub mod LineReadings
 pub mod LiteralLemmas
 pub mod LiteralValues
@@ -11,7 +13,9 @@ pub mod ReadingAnswers
 pub mod ReadingSteps
 pub mod Runs
 pub mod Scanning
+pub mod TextLawProofs
 pub mod TextLines
 pub mod TextSlices
+pub mod TokenLawProofs
 pub mod TokenStarts
 pub mod Values

@@ -15,7 +15,7 @@ clash : true ≡ false → ⊥
 clash e = cc
 
 -- a number begins with a digit
-begins : (text : List ℕ) → is_number text ≡ true → (0 < length text) × (is_digit (get_or text 0 0) ≡ true)
+pub begins : (text : List ℕ) → is_number text ≡ true → (0 < length text) × (is_digit (get_or text 0 0) ≡ true)
 begins [] h = absurd (clash (sym h))
 begins (b ∷ w) h = (omega arith, by_test (is_digit b) (λ e. e) (λ e. absurd (clash (sym h ∙ no_number b w e))))
 

@@ -9,6 +9,7 @@ use Rattle.lhg_lex.specs.Reading.{Reading, left_of, IsAt, IsNext, IsAtEnd, IsTok
 use Rattle.lhg_lex.specs.declared.stops.ReadStop.{ReadStop}
 use Rattle.lhg_lex.specs.declared.stops.ReadStop.TheVariants.{Bad, Memory}
 use Rattle.lhg_lex.specs.declared.tokens.Token.{Token}
+use Rattle.lhg_lex.specs.declared.tokens.Line.{Line}
 use Rattle.lhg_lex.proofs.ContentFronts.{content_front, before_front}
 use Rattle.lhg_lex.proofs.TextLines.{is_feed, line_here, next_place, none_left}
 use Rattle.lhg_lex.proofs.ReadingAnswers.{slices_of}
@@ -92,11 +93,11 @@ content_here bytes place =
     (c.0 ++ rest, a ∙ ap (λ w. w ++ rest) c.1 ∙ append_assoc (content_of (line_at bytes place)) c.0 rest)
 
 -- a line with tokens is the next
-pub token_line : (bytes : List ℕ) (n m place : ℕ) (tokens : List Token) → IsPassed bytes n m → IsAt bytes place m → place < length bytes
-    → all_placed place (tokens_from 0 0 (content_of (line_at bytes place))) ≡ Ok tokens → 0 < length tokens → IsTokenLine (reading bytes n) (m + 1) tokens
-token_line bytes n m place tokens p at lt e some =
+pub token_line : (bytes : List ℕ) (n m place : ℕ) (found : Line) → found.number ≡ m + 1 → IsPassed bytes n m → IsAt bytes place m → place < length bytes
+    → all_placed place (tokens_from 0 0 (content_of (line_at bytes place))) ≡ Ok found.tokens.items → 0 < length found.tokens.items → IsTokenLine (reading bytes n) found
+token_line bytes n m place found number p at lt e some =
     let line = line_at bytes place in
-    let s = spots_of place (tokens_from 0 0 (content_of line)) tokens e in
+    let s = spots_of place (tokens_from 0 0 (content_of line)) found.tokens.items e in
     let h = slices_of (content_of line) s.spots s.reads in
     let here = content_here bytes place in
     let size : place + length (content_of line) ≤ length bytes = let a = ap length here.1 in let b = length-append (content_of line) here.0 in let d = length-drop place bytes in omega (arith, a, b, d) in
@@ -105,11 +106,11 @@ token_line bytes n m place tokens p at lt e some =
       bytes = line;
       spots = s.spots;
       next = next_by bytes n m place p at lt;
-      counted = refl;
+      counted = number;
       reads = sym (tokens_are line) ∙ s.reads;
       some = let a = ap length s.placed_at in let b = length-map s.spots (placed place) in omega (arith, a, b, some);
       placed_at = s.placed_at ∙ ap (λ k. map (placed k) s.spots) at.begins;
-      says = ap (λ ts. map (plain_of bytes) ts) s.placed_at ∙ says_in bytes (content_of line) here.0 place 0 s.spots here.1 h;
+      says = ap (λ said. record { number = found.number; tokens = said }) (ap (λ ts. map (plain_of bytes) ts) s.placed_at ∙ says_in bytes (content_of line) here.0 place 0 s.spots here.1 h);
       order = subst (λ ts. InOrder 0 ts (length bytes)) (sym s.placed_at) (order_in bytes (content_of line) place 0 0 s.spots size (omega arith) h);
     }
 
@@ -159,10 +160,10 @@ cut_place bytes n place line content c at lt =
     let e : place + length (line_at bytes place) + 1 ≡ place + (length line + 1) = omega (arith, s) in
     subst (λ p. IsAt bytes p (n + 1)) e (next_place bytes place n at lt)
 
-pub cut_tokens : (bytes : List ℕ) (n m place : ℕ) (line content : List ℕ) (tokens : List Token) → IsCut bytes place line content → IsPassed bytes n m → IsAt bytes place m → place < length bytes
-    → all_placed place (tokens_from 0 0 content) ≡ Ok tokens → 0 < length tokens → IsTokenLine (reading bytes n) (m + 1) tokens
-cut_tokens bytes n m place line content tokens c p at lt e some =
-    token_line bytes n m place tokens p at lt (subst (λ w. all_placed place (tokens_from 0 0 w) ≡ Ok tokens) (cut_here bytes place line content c).1 e) some
+pub cut_tokens : (bytes : List ℕ) (n m place : ℕ) (line content : List ℕ) (found : Line) → found.number ≡ m + 1 → IsCut bytes place line content → IsPassed bytes n m → IsAt bytes place m → place < length bytes
+    → all_placed place (tokens_from 0 0 content) ≡ Ok found.tokens.items → 0 < length found.tokens.items → IsTokenLine (reading bytes n) found
+cut_tokens bytes n m place line content found number c p at lt e some =
+    token_line bytes n m place found number p at lt (subst (λ w. all_placed place (tokens_from 0 0 w) ≡ Ok found.tokens.items) (cut_here bytes place line content c).1 e) some
 
 pub cut_blank : (bytes : List ℕ) (n m place : ℕ) (line content : List ℕ) (tokens : List Token) → IsCut bytes place line content → IsPassed bytes n m → IsAt bytes place m → place < length bytes
     → all_placed place (tokens_from 0 0 content) ≡ Ok tokens → length tokens ≡ 0 → IsPassed bytes n (m + 1)

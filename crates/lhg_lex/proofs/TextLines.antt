@@ -20,11 +20,11 @@ some_if true b parts = (_, _, refl)
 some_if false b parts = some_onto b parts
 
 -- at least one part
-some_part : (bytes : List ℕ) → (x : List ℕ) × (xs : List (List ℕ)) × (slice_split is_feed bytes ≡ x ∷ xs)
+pub some_part : (bytes : List ℕ) → (x : List ℕ) × (xs : List (List ℕ)) × (slice_split is_feed bytes ≡ x ∷ xs)
 some_part [] = (_, _, refl)
 some_part (b ∷ bytes) = some_if (is_feed b) b (slice_split is_feed bytes)
 
-kept_first : (part : List ℕ) (parts : List (List ℕ)) → (x : List ℕ) (xs : List (List ℕ)) → parts ≡ x ∷ xs → without_empty_last (part ∷ parts) ≡ part ∷ without_empty_last parts
+pub kept_first : (part : List ℕ) (parts : List (List ℕ)) → (x : List ℕ) (xs : List (List ℕ)) → parts ≡ x ∷ xs → without_empty_last (part ∷ parts) ≡ part ∷ without_empty_last parts
 kept_first [] parts x xs e = rw e refl
 kept_first (b ∷ bytes) parts x xs e = rw e refl
 
@@ -33,7 +33,7 @@ lines_with_feed bytes h =
     let p = some_part (after_first is_feed bytes) in
     ap without_empty_last (slice_split_first is_feed bytes 0 h) ∙ kept_first _ _ p.0 p.1 p.2
 
-lines_without_feed : (bytes : List ℕ) → 0 < length bytes → All (λ b. is_feed b ≡ false) bytes → lines_of bytes ≡ bytes ∷ []
+pub lines_without_feed : (bytes : List ℕ) → 0 < length bytes → All (λ b. is_feed b ≡ false) bytes → lines_of bytes ≡ bytes ∷ []
 lines_without_feed [] some h = absurd (omega arith)
 lines_without_feed (b ∷ bytes) some h = ap without_empty_last (slice_split_none is_feed (b ∷ bytes) h)
 

@@ -23,7 +23,7 @@ no_number b w h =
     let d = no_run 46 b w h in
     rw (h, f, d) refl
 
-signs_from : (b : ℕ) (w : List ℕ) → is_sign_byte b ≡ false → ((c : ℕ) → is_pair b c ≡ false) → is_signs (b ∷ w) ≡ false
+pub signs_from : (b : ℕ) (w : List ℕ) → is_sign_byte b ≡ false → ((c : ℕ) → is_pair b c ≡ false) → is_signs (b ∷ w) ≡ false
 signs_from b [] h k = h
 signs_from b (c ∷ []) h k = k c
 signs_from b (c ∷ d ∷ w) h k = refl

@@ -1,9 +1,10 @@
--- Runs of digits, and the numbers that they stand for.
+-- Which bytes are digits, and for which number do they stand?
 use Rattle.std.specs.Prelude.{ℕ, List, [], ◌∷◌, Bool, false}
 use Rattle.std.specs.List.{list_all}
 use Rattle.std.specs.Str.Parse.{digits_value}
 use Rattle.lhg_lex.specs.Word.{is_digit}
 
+-- digits alone
 abbrev pub all_digits : List ℕ → Bool
 all_digits w = list_all is_digit w
 

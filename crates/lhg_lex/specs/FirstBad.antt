@@ -1,4 +1,4 @@
--- The first line of a text that cannot stand there, for any grammar of texts.
+-- Which line of a text is the first that cannot stand there, for any grammar of texts?
 use Rattle.std.specs.Prelude.{◌≡◌, ◌<◌, ◌≤◌, ◌-◌, ◌+◌, ◌⊎◌, ℕ, List, ◌++◌, length, take}
 
 -- some continuation makes the lines a text of the grammar

@@ -1,5 +1,7 @@
 pub mod Digits
+pub mod Example
 pub mod FirstBad
+pub mod Laws
 pub mod LineReading
 pub mod LineTokens
 pub mod Lines

@@ -1,10 +1,11 @@
--- The tokens of a line, said a second time: separators and longest tokens, one behind the other.
+-- What does it mean, read off the line itself, that it has these tokens, or this token error first?
 use Rattle.std.specs.Prelude.{◌≡◌, ℕ, ◌+◌, ◌<◌, ◌≤◌, List, [], ◌∷◌, ◌++◌, length, take, slice_index, slice_range, Bool, true, false, Result, Ok, Err}
 use Rattle.std.specs.List.{list_all}
 use Rattle.lhg_lex.specs.Token.{said}
 use Rattle.lhg_lex.specs.Longest.{IsLongest}
 use Rattle.lhg_lex.specs.LineTokens.{is_separator, Spot, Fault}
 
+-- spaces and tabs alone
 abbrev pub are_separators : List ℕ → Bool
 are_separators gap = list_all is_separator gap
 

@@ -1,4 +1,4 @@
--- The tokens of a line from left to right, or its first token error.
+-- Which tokens has a line from left to right, or which token error comes first?
 use Rattle.std.specs.Prelude.{◌≡◌, ℕ, zero, suc, ◌+◌, ◌-◌, List, [], ◌∷◌, take, Bool, ◌||◌, ◌==◌, if◌then◌else◌, Result, Ok, Err}
 use Rattle.std.specs.List.{before_first}
 use Rattle.lhg_lex.specs.PlainToken.{PlainToken}

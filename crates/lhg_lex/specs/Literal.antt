@@ -1,4 +1,4 @@
--- Numbers as they are written: their forms, their values and their errors.
+-- Which bytes are a number, and what is its value or its error?
 use Rattle.std.specs.Prelude.{ℕ, ◌+◌, ◌^◌, pos, List, ◌++◌, length, Bool, ◌&&◌, ◌||◌, ◌==◌, nat_lt, if◌then◌else◌, Result, Ok, Err}
 use Rattle.std.specs.List.{before_first, after_first}
 use Rattle.lhg_math.specs.Number.{Number, whole, quot}
@@ -6,10 +6,11 @@ use Rattle.lhg_lex.specs.Digits.{is_run, value_of}
 use Rattle.lhg_lex.specs.declared.stops.What.{What}
 use Rattle.lhg_lex.specs.declared.stops.What.TheVariants.{LongNumber, ZeroDenominator}
 
--- what stands before the first such byte, and what stands behind it
+-- what stands before the first such byte, and all where there is none
 abbrev pub before : ℕ → List ℕ → List ℕ
 before mark w = before_first (λ b. b == mark) w
 
+-- what stands behind it, and nothing where there is none
 abbrev pub behind : ℕ → List ℕ → List ℕ
 behind mark w = after_first (λ b. b == mark) w
 
@@ -17,11 +18,11 @@ behind mark w = after_first (λ b. b == mark) w
 abbrev pub is_parted : ℕ → List ℕ → Bool
 is_parted mark w = is_run (before mark w) && is_run (behind mark w)
 
--- with `/` between
+-- digits `/` digits
 abbrev pub is_fraction : List ℕ → Bool
 is_fraction w = is_parted 47 w
 
--- with `.` between
+-- digits `.` digits
 abbrev pub is_decimal : List ℕ → Bool
 is_decimal w = is_parted 46 w
 
@@ -41,10 +42,11 @@ limit = 170141183460469231731687303715884105727
 abbrev pub is_long : List ℕ → Bool
 is_long w = nat_lt limit (value_of w)
 
+-- the value of digits alone
 abbrev pub whole_value : List ℕ → Result Number What
 whole_value w = if is_long w then Err LongNumber else Ok (whole (pos (value_of w)))
 
--- the digits before and behind the `/`
+-- the value of digits before and behind a `/`
 abbrev pub fraction_value : List ℕ → List ℕ → Result Number What
 fraction_value n d =
     if is_long n || is_long d then Err LongNumber else
@@ -54,7 +56,7 @@ fraction_value n d =
 abbrev pub decimal_digits : ℕ
 decimal_digits = 38
 
--- the digits before and behind the `.`, which counts as a division by a power of ten
+-- the value of digits before and behind a `.`: all of them over a power of ten
 abbrev pub decimal_value : List ℕ → List ℕ → Result Number What
 decimal_value n d =
     if nat_lt decimal_digits (length n + length d) then Err LongNumber else Ok (quot (whole (pos (value_of (n ++ d)))) (whole (pos (10 ^ length d))))

@@ -1,4 +1,4 @@
--- The longest token at the front of some bytes.
+-- How long is the longest token at the front of some bytes?
 use Rattle.std.specs.Prelude.{◌≡◌, ℕ, zero, suc, ◌<◌, ◌≤◌, List, length, take, true, false, if◌then◌else◌}
 use Rattle.lhg_lex.specs.Token.{is_token}
 
@@ -11,7 +11,7 @@ longest_within (suc n) bytes = if is_token (take (suc n) bytes) then suc n else 
 unfoldable pub longest : List ℕ → ℕ
 longest bytes = longest_within (length bytes) bytes
 
--- the same, said by what it is: a token, and no longer front is one
+-- the same, said by what it is: no longer front is a token, and it is one unless it is 0
 pub record IsLongest (bytes : List ℕ) (n : ℕ) : Type 0 where
   pub within : n ≤ length bytes
   pub token : 0 < n → is_token (take n bytes) ≡ true

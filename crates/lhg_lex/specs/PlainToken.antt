@@ -1,4 +1,4 @@
--- Tokens and lines without where they lie in a text.
+-- What does a token say, and what does a line, apart from where they lie in a text?
 use Rattle.std.specs.Prelude.{ℕ, List}
 use Rattle.lhg_math.specs.Number.{Number}
 
@@ -11,5 +11,5 @@ pub data PlainToken : Type 0 where
 
 -- a line's number, counted from 1, and what its tokens say
 pub record PlainLine : Type 0 where
-  pub line : ℕ
+  pub number : ℕ
   pub tokens : List PlainToken

@@ -1,13 +1,13 @@
--- Reading a text line by line: which line comes next.
+-- Which line of a text comes next, and what is read of it?
 use Rattle.std.specs.Prelude.{◌≡◌, ℕ, zero, suc, ◌+◌, ◌<◌, ◌≤◌, List, [], ◌∷◌, ◌++◌, length, drop, map, Ok, Err, ⊤}
 use Rattle.std.specs.List.{AllByRecursion}
 use Rattle.lhg_lex.specs.Lines.{lines_of}
 use Rattle.lhg_lex.specs.LineTokens.{Spot, tokens_of, IsBlankLine}
-use Rattle.lhg_lex.specs.TextTokens.{placed, plain_of, InOrder}
+use Rattle.lhg_lex.specs.TextTokens.{placed, plain_line, InOrder}
 use Rattle.lhg_lex.specs.declared.stops.What.{What}
 use Rattle.lhg_lex.specs.declared.stops.ReadStop.{ReadStop}
 use Rattle.lhg_lex.specs.declared.stops.ReadStop.TheVariants.{Bad, Memory}
-use Rattle.lhg_lex.specs.declared.tokens.Token.{Token}
+use Rattle.lhg_lex.specs.declared.tokens.Line.{Line}
 
 -- a text, and how many of its lines are read
 pub record Reading : Type 0 where
@@ -40,18 +40,18 @@ pub record IsNext (s : Reading) (n : ℕ) (line : List ℕ) : Type 0 where
 pub record IsAtEnd (s : Reading) : Type 0 where
   pub blank : AllByRecursion IsBlankLine (left_of s)
 
--- the line with this number is the next that is not blank, and these are its tokens, each its slice of the text
-pub record IsTokenLine (s : Reading) (line : ℕ) (tokens : List Token) : Type 0 where
+-- this is the next line that is not blank, with its number and its tokens, each its slice of the text
+pub record IsTokenLine (s : Reading) (line : Line) : Type 0 where
   pub before : ℕ
   pub bytes : List ℕ
   pub spots : List Spot
   pub next : IsNext s before bytes
-  pub counted : line ≡ before + 1
+  pub counted : line.number ≡ before + 1
   pub reads : tokens_of bytes ≡ Ok spots
   pub some : 0 < length spots
-  pub placed_at : tokens ≡ map (placed (start_of before (lines_of s.bytes))) spots
-  pub says : map (plain_of s.bytes) tokens ≡ map (λ t. t.says) spots
-  pub order : InOrder 0 tokens (length s.bytes)
+  pub placed_at : line.tokens.items ≡ map (placed (start_of before (lines_of s.bytes))) spots
+  pub says : plain_line s.bytes line ≡ record { number = line.number; tokens = map (λ t. t.says) spots }
+  pub order : InOrder 0 line.tokens.items (length s.bytes)
 
 -- the line with this number is the next that is not blank, and this is its first token error
 pub record IsBadLine (s : Reading) (line column : ℕ) (what : What) : Type 0 where

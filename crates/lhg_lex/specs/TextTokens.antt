@@ -1,6 +1,6 @@
--- Tokens as they lie in a text.
+-- Where in a text do the tokens of a line lie, and what does a token of the text say?
 use Rattle.std.specs.Prelude.{◌≡◌, ℕ, ◌+◌, ◌<◌, ◌≤◌, List, [], ◌∷◌, map, slice_range, Result, Ok, Err, ⊤}
-use Rattle.lhg_lex.specs.PlainToken.{PlainToken, word, number, sign, two_signs}
+use Rattle.lhg_lex.specs.PlainToken.{PlainToken, PlainLine, word, number, sign, two_signs}
 use Rattle.lhg_lex.specs.LineTokens.{Spot, Fault}
 use Rattle.lhg_lex.specs.declared.stops.What.{What}
 use Rattle.lhg_lex.specs.declared.stops.ReadStop.{ReadStop}
@@ -8,6 +8,7 @@ use Rattle.lhg_lex.specs.declared.stops.ReadStop.TheVariants.{Bad, Memory}
 use Rattle.lhg_lex.specs.declared.tokens.Tok.{Tok}
 use Rattle.lhg_lex.specs.declared.tokens.Tok.TheVariants as tok
 use Rattle.lhg_lex.specs.declared.tokens.Token.{Token}
+use Rattle.lhg_lex.specs.declared.tokens.Line.{Line}
 
 -- what a token is, without a word's bytes
 abbrev pub kind_of : PlainToken → Tok
@@ -16,6 +17,7 @@ kind_of (number q) = tok.Number q
 kind_of (sign b) = tok.Sign b
 kind_of (two_signs b c) = tok.TwoSign b c
 
+-- the same of an answer
 abbrev pub kind_said : Result PlainToken What → Result Tok What
 kind_said (Ok token) = Ok (kind_of token)
 kind_said (Err what) = Err what
@@ -24,6 +26,7 @@ kind_said (Err what) = Err what
 abbrev pub placed : ℕ → Spot → Token
 placed start spot = record { kind = kind_of spot.says; from = start + spot.from; to = start + spot.to }
 
+-- what a token of this kind says, given its bytes
 abbrev pub plain_kind : List ℕ → Tok → PlainToken
 plain_kind bytes tok.Word = word bytes
 plain_kind bytes (tok.Number q) = number q
@@ -34,7 +37,11 @@ plain_kind bytes (tok.TwoSign b c) = two_signs b c
 abbrev pub plain_of : List ℕ → Token → PlainToken
 plain_of text token = plain_kind (slice_range text token.from token.to) token.kind
 
--- the tokens are slices of the text, one behind the other, from one place up to another
+-- what a line of the text says
+abbrev pub plain_line : List ℕ → Line → PlainLine
+plain_line text line = record { number = line.number; tokens = map (plain_of text) line.tokens.items }
+
+-- the tokens have bytes, one behind the other, from one place up to another
 abbrev pub InOrder : ℕ → List Token → ℕ → Type 0
 InOrder low [] high = low ≤ high
 InOrder low (token ∷ tokens) high = (low ≤ token.from) × (token.from < token.to) × InOrder token.to tokens high

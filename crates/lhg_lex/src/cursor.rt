@@ -42,7 +42,7 @@ fn next_line(alloc: Global, bytes: &[u8], from: usize, read: u32) -> Result<Foun
     requires short { length bytes.now ≤ 1048576 }
     requires at { IsAt bytes.now from read }
     ensures at { IfOk result (λ f. IsAt bytes.now f.place f.read) }
-    ensures line { IfOk result (λ f. IfSome f.line (λ line. IsTokenLine (record { bytes = bytes.now; read = read }) line.number line.tokens.items)) }
+    ensures line { IfOk result (λ f. IfSome f.line (λ line. IsTokenLine (record { bytes = bytes.now; read = read }) line)) }
     ensures read { IfOk result (λ f. IfSome f.line (λ line. f.read ≡ line.number)) }
     ensures none { IfOk result (λ f. IfNone f.line (IsAtEnd (record { bytes = bytes.now; read = read }))) }
     ensures all { IfOk result (λ f. IfNone f.line (f.read ≡ length (lines_of bytes.now))) }
@@ -88,7 +88,7 @@ impl<'a> Lines<'a> {
     /// lines where they were.
     pub fn next(&mut self, alloc: Global) -> Result<Option<Line>, ReadStop>
         // the next line that is not blank, and its tokens
-        ensures line { IfOk result (λ o. IfSome o (λ line. IsTokenLine self.old line.number line.tokens.items)) }
+        ensures line { IfOk result (λ o. IfSome o (λ line. IsTokenLine self.old line)) }
         ensures read { IfOk result (λ o. IfSome o (λ line. self.new ≡ record self.old { read = line.number })) }
         // none exactly where all lines that are left are blank
         ensures none { IfOk result (λ o. IfNone o (IsAtEnd self.old)) }
@@ -101,6 +101,13 @@ impl<'a> Lines<'a> {
         self.place = found.place;
         self.read = found.read;
         Ok(found.line)
+    }
+
+    /// How many lines are read, blank ones included.
+    pub fn lines_read(&self) -> u32
+        ensures { result ≡ self.now.read }
+    {
+        self.read
     }
 
     /// The bytes of a token.

@@ -5,10 +5,13 @@ mod classes;
 mod contents;
 mod cursor;
 mod kinds;
+pub mod laws;
 mod lengths;
 mod line_tokens;
 mod literals;
 mod stops;
+#[cfg(test)]
+mod tests;
 mod tokens;
 
 pub use cursor::Lines;

@@ -1,4 +1,4 @@
-use Rattle.std.proofs.Common.{arith, sym, ◌∙◌, vec_len}
+use Rattle.std.proofs.Common.{refl, ◌+◌, arith, sym, ◌∙◌, vec_len}
 use Rattle.std.proofs.lemmas.Bool.{eqb-true, eqb-false}
 use Rattle.std.proofs.lemmas.Result.{err_from_is_err_and}
 use Rattle.lhg_lex.proofs.TextLines.{few_lines}
@@ -26,7 +26,7 @@ returns-then-not-is_empty-clause-at c =
 
 pub returns-then-not-is_empty-clause-line : goal.returns-then-not-is_empty-clause-line
 returns-then-not-is_empty-clause-line c =
-    cut_tokens c.args.bytes.now c.args.read c.loop-place.number c.loop-place.place c.first_line-line.result.now c.content.result.now c.in_ok-tokens.tokens.items
+    cut_tokens c.args.bytes.now c.args.read c.loop-place.number c.loop-place.place c.first_line-line.result.now c.content.result.now (record { number = c.loop-place.number + 1; tokens = c.in_ok-tokens.tokens }) refl
     (record { line_is = c.first_line-line.ensures; content_is = c.content.ensures }) c.loop-place.invariant.passed c.loop-place.invariant.at c.loop-place-test.true c.in_ok-tokens.ensures.ok
     (let e = eqb-false (vec_len c.in_ok-tokens.tokens) 0 (sym c.is_empty.ensures ∙ c.if-not-is_empty.true) in omega (arith, e, c.in_ok-tokens.tokens.ok))
 

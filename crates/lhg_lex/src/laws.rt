@@ -1,0 +1,33 @@
+// What follows from the definitions of lines and tokens.
+ghost use Rattle.lhg_lex.specs.Example.{LineFacts, TokenFacts, NumberFacts};
+ghost use Rattle.lhg_lex.specs.Laws.{TokenLaws, LongestLaws, ContentLaws, LineLaws, TextLaws, NextLaws, FirstBadLaws};
+
+/// A token is of one kind, and the longest token at the front of a text is one alone.
+pub fn law_tokens()
+    ensures kinds { TokenLaws }
+    ensures longest { LongestLaws }
+{}
+
+/// The tokens of a line are determined, and are its slices in order; so is its first token error.
+pub fn law_line()
+    ensures content { ContentLaws }
+    ensures line { LineLaws }
+{}
+
+/// Where the lines of a text end and begin, and which comes next.
+pub fn law_text()
+    ensures lines { TextLaws }
+    ensures next { NextLaws }
+{}
+
+/// The first line of a text that cannot stand there is one alone.
+pub fn law_first_bad()
+    ensures { FirstBadLaws }
+{}
+
+/// What the definitions say of a few lines and numbers.
+pub fn law_example()
+    ensures lines { LineFacts }
+    ensures tokens { TokenFacts }
+    ensures numbers { NumberFacts }
+{}
