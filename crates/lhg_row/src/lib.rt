@@ -4,6 +4,7 @@
 pub mod calculus_laws;
 mod forms;
 pub mod laws;
+pub mod piece_laws;
 mod rows;
 pub mod scaling;
 mod systems;

@@ -1,0 +1,41 @@
+-- Which laws do the operations on pieces and on lists of pieces obey?
+use Rattle.std.specs.Prelude.{List, ◌≡◌, ◌↔◌, ℕ, ◌-◌, ◌≤◌, length}
+use Rattle.lhg_math.specs.Number.{Number}
+use Rattle.lhg_math.specs.Places.{IsInner}
+use Rattle.lhg_num.specs.Arithmetic.{Arithmetic, IsLawful}
+use Rattle.lhg_row.specs.Row.{PlainRow, PlainPoint}
+use Rattle.lhg_row.specs.Piece.{PlainPiece, InPiece, InClosure}
+use Rattle.lhg_row.specs.Segment.{along}
+use Rattle.lhg_row.specs.Width.{AllWide}
+use Rattle.lhg_row.specs.HasValue.{HasPoint}
+use Rattle.lhg_row.specs.Pieces.{entails, make, meet, closure, includes, project}
+use Rattle.lhg_row.specs.Lists.{minus, covered, meet_lists}
+use Rattle.lhg_row.specs.PieceFacts.{AllOver, AllPolys, IsEntailment, IsMade, IsMeet, IsClosure, IsInclusion, IsProjection, IsDifference, IsIntersection, IsCovering}
+
+-- what is made of rows and of one or two pieces, for every lawful type
+pub record PieceLaws : Type 0 where
+  pub entails : (a : Arithmetic) (n : ℕ) (rows : PlainPiece) (r : PlainRow) → IsLawful a → AllWide n rows → length r.coefs ≡ n
+      → IsEntailment n rows r (entails a n rows r).value
+  pub make : (a : Arithmetic) (n : ℕ) (rows : PlainPiece) → IsLawful a → AllWide n rows → IsMade n rows (make a n rows).value
+  pub meet : (a : Arithmetic) (n : ℕ) (p q : PlainPiece) → IsLawful a → AllWide n p → AllWide n q → IsMeet n p q (meet a n p q).value
+  pub closure : (a : Arithmetic) (n : ℕ) (p : PlainPiece) → IsLawful a → AllWide n p → HasPoint n p → IsClosure n p (closure a n p).value
+  pub includes : (a : Arithmetic) (n : ℕ) (p q : PlainPiece) → IsLawful a → AllWide n p → AllWide n q → IsInclusion n p q (includes a n p q).value
+  pub project : (a : Arithmetic) (n kept : ℕ) (rows : PlainPiece) → IsLawful a → kept ≤ n → AllWide n rows
+      → IsProjection kept (n - kept) rows (project a n kept rows).value
+
+-- the fact "relaxed closure": the relaxed rows of a piece with a point x hold at y exactly where the piece holds at each point strictly between x and y
+abbrev pub RelaxedClosureLaw : Type 0
+RelaxedClosureLaw = (p : PlainPiece) (x y : PlainPoint) → length x ≡ length y → InPiece p x → InClosure p y ↔ ((u : Number) → IsInner u → InPiece p (along x y u))
+
+-- the fact "between lies inside": where two points satisfy the relaxed rows and one point strictly between them is in the piece, all are
+abbrev pub BetweenLaw : Type 0
+BetweenLaw = (p : PlainPiece) (x y : PlainPoint) (u v : Number) → length x ≡ length y → InClosure p x → InClosure p y → IsInner u → InPiece p (along x y u) → IsInner v
+    → InPiece p (along x y v)
+
+-- what is made of lists of pieces, for every lawful type
+pub record ListLaws : Type 0 where
+  pub difference : (a : Arithmetic) (n : ℕ) (ps qs : List PlainPiece) → IsLawful a → AllOver n ps → AllOver n qs → IsDifference n ps qs (minus a n ps qs).value
+  pub difference_polys : (a : Arithmetic) (n : ℕ) (ps qs : List PlainPiece) → IsLawful a → AllPolys n ps → AllOver n qs → AllPolys n (minus a n ps qs).value
+  pub cover : (a : Arithmetic) (n : ℕ) (ps qs : List PlainPiece) → IsLawful a → AllPolys n ps → AllOver n qs → IsCovering n ps qs (covered a n ps qs).value
+  pub intersection : (a : Arithmetic) (n : ℕ) (ps qs : List PlainPiece) → IsLawful a → AllOver n ps → AllOver n qs → IsIntersection n ps qs (meet_lists a n ps qs).value
+  pub intersection_polys : (a : Arithmetic) (n : ℕ) (ps qs : List PlainPiece) → IsLawful a → AllOver n ps → AllOver n qs → AllPolys n (meet_lists a n ps qs).value
