@@ -29,15 +29,15 @@ insert-end (suc k) v (x ∷ xs) e = ap (λ ys. x ∷ ys) (insert-end k v xs (ome
 
 -- the lengths of two lists add
 pub joined-length : (kept count : ℕ) (xs ys : List Number) → length xs ≡ kept → length ys ≡ count → length (xs ++ ys) ≡ kept + count
-pub joined-length kept count xs ys e f = omega (arith, length-append xs ys)
+joined-length kept count xs ys e f = omega (arith, length-append xs ys)
 
 -- a number that is put in after both of them comes last
 pub insert-joined : (kept count : ℕ) (v : Number) (xs ys : List Number) → length xs ≡ kept → length ys ≡ count → insert (xs ++ ys) (kept + count) v ≡ xs ++ (ys ++ v ∷ [])
-pub insert-joined kept count v xs ys e f = insert-end (kept + count) v (xs ++ ys) (joined-length kept count xs ys e f) ∙ append_assoc xs ys (v ∷ [])
+insert-joined kept count v xs ys e f = insert-end (kept + count) v (xs ++ ys) (joined-length kept count xs ys e f) ∙ append_assoc xs ys (v ∷ [])
 
 -- the last member comes back
 pub insert-last : (kept count : ℕ) (xs ys : List Number) (s : HasLast count ys) → length xs ≡ kept → insert (xs ++ s.front) (kept + count) s.last ≡ xs ++ ys
-pub insert-last kept count xs ys s e = insert-joined kept count s.last xs s.front e s.many ∙ ap (λ z. xs ++ z) s.joined
+insert-last kept count xs ys s e = insert-joined kept count s.last xs s.front e s.many ∙ ap (λ z. xs ++ z) s.joined
 
 -- a list is longer by one with a number at its end
 pub longer : (count : ℕ) (v : Number) (xs : List Number) → length xs ≡ count → length (xs ++ v ∷ []) ≡ suc count

@@ -1,4 +1,5 @@
 pub mod Bars
+pub mod BoundLaws
 pub mod CalculusLaws
 pub mod CheckLemmas
 pub mod CheckList
@@ -47,6 +48,8 @@ pub mod Play
 pub mod PlayLemmas
 pub mod ProjectLaws
 pub mod Row
+pub mod Sample
+pub mod SampleLaws
 pub mod Segment
 pub mod SegmentLemmas
 pub mod Senses
@@ -61,3 +64,4 @@ pub mod Width
 pub mod WidthLaws
 pub mod WithoutLaws
 pub mod Worked
+pub mod WorkedPieces

@@ -12,6 +12,11 @@ pub record IsPoly (n : ℕ) (piece : PlainPiece) : Type 0 where
   pub tidy : IsTidy piece
   pub point : HasPoint n piece
 
+-- the point is over n variables and lies in the piece
+pub record IsPointOf (n : ℕ) (piece : PlainPiece) (x : PlainPoint) : Type 0 where
+  pub wide : length x ≡ n
+  pub inside : InPiece piece x
+
 -- each piece of the list is over n variables
 abbrev pub AllOver : ℕ → List PlainPiece → Type 0
 AllOver n ps = AllOf (AllWide n) ps

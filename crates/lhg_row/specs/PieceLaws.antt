@@ -9,8 +9,9 @@ use Rattle.lhg_row.specs.Segment.{along}
 use Rattle.lhg_row.specs.Width.{AllWide}
 use Rattle.lhg_row.specs.HasValue.{HasPoint}
 use Rattle.lhg_row.specs.Pieces.{entails, make, meet, closure, includes, project}
+use Rattle.lhg_row.specs.Sample.{sample}
 use Rattle.lhg_row.specs.Lists.{minus, covered, meet_lists}
-use Rattle.lhg_row.specs.PieceFacts.{AllOver, AllPolys, IsEntailment, IsMade, IsMeet, IsClosure, IsInclusion, IsProjection, IsDifference, IsIntersection, IsCovering}
+use Rattle.lhg_row.specs.PieceFacts.{IsPointOf, AllOver, AllPolys, IsEntailment, IsMade, IsMeet, IsClosure, IsInclusion, IsProjection, IsDifference, IsIntersection, IsCovering}
 
 -- what is made of rows and of one or two pieces, for every lawful type
 pub record PieceLaws : Type 0 where
@@ -39,3 +40,7 @@ pub record ListLaws : Type 0 where
   pub cover : (a : Arithmetic) (n : ℕ) (ps qs : List PlainPiece) → IsLawful a → AllPolys n ps → AllOver n qs → IsCovering n ps qs (covered a n ps qs).value
   pub intersection : (a : Arithmetic) (n : ℕ) (ps qs : List PlainPiece) → IsLawful a → AllOver n ps → AllOver n qs → IsIntersection n ps qs (meet_lists a n ps qs).value
   pub intersection_polys : (a : Arithmetic) (n : ℕ) (ps qs : List PlainPiece) → IsLawful a → AllOver n ps → AllOver n qs → AllPolys n (meet_lists a n ps qs).value
+
+-- the sample of a piece of fractions lies in it
+abbrev pub SampleLaw : Type 0
+SampleLaw = (n : ℕ) (piece : PlainPiece) → AllWide n piece → HasPoint n piece → IsPointOf n piece (sample n piece).value

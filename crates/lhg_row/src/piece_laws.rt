@@ -1,5 +1,6 @@
 // What callers may rest on: the laws of the calculus of pieces.
-ghost use Rattle.lhg_row.specs.PieceLaws.{PieceLaws, RelaxedClosureLaw, BetweenLaw, ListLaws};
+ghost use Rattle.lhg_row.specs.PieceLaws.{PieceLaws, RelaxedClosureLaw, BetweenLaw, ListLaws, SampleLaw};
+ghost use Rattle.lhg_row.specs.WorkedPieces.{PieceRows, ListRows, LimitRows, SampleRows};
 
 /// What is made of rows and of one or two pieces has exactly the points that it should.
 pub fn law_pieces()
@@ -15,4 +16,17 @@ pub fn law_closure()
 /// What is made of lists of pieces has exactly the points that it should.
 pub fn law_lists()
     ensures { ListLaws }
+{}
+
+/// The sample of a piece of fractions lies in it.
+pub fn law_sample()
+    ensures { SampleLaw }
+{}
+
+/// Known pieces, by computation.
+pub fn law_worked_pieces()
+    ensures pieces { PieceRows }
+    ensures lists { ListRows }
+    ensures limits { LimitRows }
+    ensures samples { SampleRows }
 {}
