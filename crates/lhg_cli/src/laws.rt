@@ -4,5 +4,4 @@ ghost use Rattle.lhg_cli.specs.TextExamples.{RowExamples};
 /// Rows and lists of rows as they are printed.
 pub fn law_texts()
     ensures { RowExamples }
-{
-}
+{}
