@@ -21,6 +21,7 @@ fewer takes lines n m h c =
 all_stand : (takes : List (List ℕ) → Bool) (lines : List (List ℕ)) (n : ℕ) → takes lines ≡ true → CanStand (IsTaken takes) (take n lines)
 all_stand takes lines n h = (drop n lines, subst (λ text. takes text ≡ true) (sym (take-append-drop n lines)) h)
 
+-- a text that is taken has no first bad line
 none_bad : (takes : List (List ℕ) → Bool) (lines : List (List ℕ)) (n : ℕ) → takes lines ≡ true → ¬ IsFirstBad (IsTaken takes) lines n
 none_bad takes lines n h b = elim b.bad [ inl early ↦ early.1 (all_stand takes lines n h) | inr late ↦ late.1 h ]
 
@@ -32,6 +33,7 @@ not_later takes lines n m h a b =
       | inr late ↦ elim b.bad [ inl e ↦ absurd (omega (arith, late.0, e.0)) | inr e ↦ absurd (omega (arith, late.0, e.0)) ]
     ]
 
+-- two first bad lines are one
 one_bad : (takes : List (List ℕ) → Bool) (lines : List (List ℕ)) (n m : ℕ) → IsFirstBad (IsTaken takes) lines n → IsFirstBad (IsTaken takes) lines m → n ≡ m
 one_bad takes lines n m a b =
     elim (cases_order n m) [
@@ -39,5 +41,6 @@ one_bad takes lines n m a b =
       | inr other ↦ elim other [ inl lt ↦ absurd (not_later takes lines n m lt a b) | inr gt ↦ absurd (not_later takes lines m n gt b a) ]
     ]
 
+-- the laws
 pub first_bad_laws : FirstBadLaws
 first_bad_laws = record { none = none_bad; one = one_bad }

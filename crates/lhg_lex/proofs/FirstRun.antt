@@ -8,6 +8,7 @@ use Rattle.lhg_lex.specs.Digits.{is_run}
 use Rattle.lhg_lex.proofs.Fronts.{front_passes}
 use Rattle.lhg_lex.proofs.Runs.{run_from_digits}
 
+-- a text that begins with a digit has a run there
 first_run : (text : List ℕ) → 0 < length text → is_digit (get_or text 0 0) ≡ true → 0 < prefix_len is_digit text
 first_run [] some h = absurd (omega arith)
 first_run (b ∷ w) some h = rw h (omega arith)
@@ -31,6 +32,7 @@ pub record IsFirstRun (text : List ℕ) (n : ℕ) : Type 0 where
   pub run : is_run (take n text) ≡ true
   pub stops : n < length text → is_digit (get_or text n 0) ≡ false
 
+-- the longest front of digits is that run
 pub first_run_is : (text : List ℕ) → 0 < length text → is_digit (get_or text 0 0) ≡ true → IsFirstRun text (prefix_len is_digit text)
 first_run_is text some h =
     let p = first_run text some h in

@@ -1,19 +1,13 @@
 -- The longest front of a list that passes a test.
 use Rattle.std.proofs.Common.{◌≡◌, ◌<◌, ◌≤◌, ◌+◌, ℕ, zero, suc, List, [], ◌∷◌, ◌++◌, length, take, refl, Bool, true, false, cond, arith, ◌&&◌}
+use Rattle.lhg_math.specs.Tests.{by_bool}
 use Rattle.std.specs.List.{list_all, prefix_len}
 
--- by cases on a test that is kept as an equation
-pub by_test : {P : Type 0} (t : Bool) → (t ≡ true → P) → (t ≡ false → P) → P
-by_test true f g = f refl
-by_test false f g = g refl
-
+-- one more before, as one more
 pub suc_is : (n : ℕ) → 1 + n ≡ suc n
 suc_is n = omega arith
 
-pub both : (a b : Bool) → (a && b) ≡ true → (a ≡ true) × (b ≡ true)
-both true b h = (refl, h)
-both false b h = absurd cc
-
+-- the same of one more element
 front_by : (p : ℕ → Bool) (b : ℕ) (w : List ℕ) (t : Bool) → p b ≡ t → list_all p (take (prefix_len p w) w) ≡ true → list_all p (take (cond t (1 + prefix_len p w) 0) (b ∷ w)) ≡ true
 front_by p b w true e h = rw (suc_is (prefix_len p w), e) h
 front_by p b w false e h = refl
@@ -28,10 +22,11 @@ pub front_fails : (p : ℕ → Bool) (w : List ℕ) (k : ℕ) → prefix_len p w
 front_fails p [] k h n = absurd (omega arith)
 front_fails p (b ∷ w) zero h n = absurd (omega arith)
 front_fails p (b ∷ w) (suc k) h n =
-    by_test (p b)
+    by_bool (p b)
     (λ e. let g : 1 + prefix_len p w < suc k = rw e at h in rw e (front_fails p w k (omega arith) (omega arith)))
     (λ e. rw e refl)
 
+-- all of two lists pass where all of each do
 pub list_all-append : (p : ℕ → Bool) (a b : List ℕ) → list_all p (a ++ b) ≡ (list_all p a && list_all p b)
 list_all-append p [] b = refl
-list_all-append p (x ∷ a) b = by_test (p x) (λ e. rw e (list_all-append p a b)) (λ e. rw e refl)
+list_all-append p (x ∷ a) b = by_bool (p x) (λ e. rw e (list_all-append p a b)) (λ e. rw e refl)

@@ -11,6 +11,7 @@ pub mod LongestLemmas
 pub mod NumberLengths
 pub mod ReadingAnswers
 pub mod ReadingSteps
+pub mod Results
 pub mod Runs
 pub mod Scanning
 pub mod TextLawProofs

@@ -12,11 +12,13 @@ use Rattle.lhg_lex.proofs.Runs.{run_from_digits, is_number-at, is_number-run}
 use Rattle.lhg_lex.proofs.FirstRun.{IsFirstRun, first_run_is, take_more_than, rest_is}
 use Rattle.lhg_lex.proofs.TokenStarts.{number_token}
 
+-- what begins with a digit is a token where it is a number
 front_number : (text : List ℕ) (m : ℕ) → 0 < length text → is_digit (get_or text 0 0) ≡ true → 0 < m → is_token (take m text) ≡ is_number (take m text)
 front_number [] m some h k = absurd (omega arith)
 front_number (b ∷ w) zero some h k = absurd (omega arith)
 front_number (b ∷ w) (suc m) some h k = number_token b (take m w) h
 
+-- more than the digits are a number where a mark and digits follow
 longer_number : (text : List ℕ) (n m : ℕ) → IsFirstRun text n → n < m → m ≤ length text → is_number (take m text) ≡ (is_mark (get_or text n 0) && is_run (take (m - suc n) (drop (suc n) text)))
 longer_number text n m f h k =
     let e : suc (n + (m - suc n)) ≡ m = omega arith in
@@ -36,6 +38,7 @@ pub plain_longest : (text : List ℕ) (n : ℕ) → n ≡ prefix_len is_digit te
 plain_longest text n is some h (inl all) = plain_by text n some h (subst (λ z. IsFirstRun text z) (sym is) (first_run_is text some h)) (λ k l. absurd (omega arith))
 plain_longest text n is some h (inr mark) = plain_by text n some h (subst (λ z. IsFirstRun text z) (sym is) (first_run_is text some h)) (λ k l. rw mark refl)
 
+-- no front of what begins with no digit is a run
 no_digits : (rest : List ℕ) (k : ℕ) → prefix_len is_digit rest ≡ 0 → k ≤ length rest → is_run (take k rest) ≡ false
 no_digits rest zero e l = refl
 no_digits [] (suc k) e l = absurd (omega arith)
@@ -52,6 +55,7 @@ bare_longest text n part is some h e z =
     and_false true = refl
     and_false false = refl
 
+-- no more than the digits are a run
 run_fails : (w : List ℕ) (k : ℕ) → prefix_len is_digit w < k → k ≤ length w → is_run (take k w) ≡ false
 run_fails w zero h l = absurd (omega arith)
 run_fails [] (suc k) h l = absurd (omega arith)

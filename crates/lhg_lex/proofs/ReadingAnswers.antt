@@ -1,5 +1,7 @@
 -- What a reading of a line tells of its answer.
 use Rattle.std.proofs.Common.{◌≡◌, ◌<◌, ◌≤◌, ◌+◌, ◌-◌, ℕ, suc, List, [], ◌∷◌, ◌++◌, length, take, drop, refl, sym, ap, ◌∙◌, subst, true, false, arith, get_or, Result, Ok, Err, add-zero, take_at, drop_at, append-nil, length-append, length-drop}
+use Rattle.lhg_math.specs.Tests.{by_bool}
+use Rattle.std.proofs.lemmas.Bool.{and_parts}
 use Rattle.std.specs.Prelude.{slice_range}
 use Rattle.std.proofs.lemmas.List.{drop-drop}
 use Rattle.lhg_lex.specs.PlainToken.{PlainToken}
@@ -9,13 +11,13 @@ use Rattle.lhg_lex.specs.LineTokens.{tokens_from, taken, is_separator, Spot, Fau
 use Rattle.lhg_lex.specs.LineReading.{are_separators, IsTokenThen, Reads, EndsWell, EndsIn, IsReadAs, AreSlices}
 use Rattle.lhg_lex.specs.declared.stops.What.{What}
 use Rattle.lhg_lex.specs.declared.stops.What.TheVariants.{BadByte}
-use Rattle.lhg_lex.proofs.Fronts.{by_test, both}
 use Rattle.lhg_lex.proofs.Bytes.{separator_not_word, separator_not_digit, separator_not_sign, pair_needs_sign}
-use Rattle.lhg_lex.proofs.TokenStarts.{signs_here}
+use Rattle.lhg_lex.proofs.TokenStarts.{signs_here, nothing_said}
 use Rattle.lhg_lex.proofs.LongestLemmas.{longest_is, longest_holds}
 use Rattle.lhg_lex.proofs.LineReadings.{reading_of}
 use Rattle.lhg_lex.proofs.Scanning.{step_over, none_taken, one_taken}
 
+-- a separator is no sign and begins none
 no_signs : (b : ℕ) (w : List ℕ) → is_separator b ≡ true → signs_said (b ∷ w) ≡ Err BadByte
 no_signs b [] h = let s = separator_not_sign b h in rw s refl
 no_signs b (c ∷ []) h = let s = pair_needs_sign b c (separator_not_sign b h) in rw s refl
@@ -23,7 +25,7 @@ no_signs b (c ∷ d ∷ w) h = refl
 
 -- no token begins with a separator
 token_begins : (b : ℕ) (w : List ℕ) (token : PlainToken) → said (b ∷ w) ≡ Ok token → is_separator b ≡ false
-token_begins b w token e = by_test (is_separator b) (λ s. absurd (clash token (sym e ∙ signs_here b w (separator_not_word b s) (separator_not_digit b s) ∙ no_signs b w s))) (λ s. s)
+token_begins b w token e = by_bool (is_separator b) (λ s. absurd (clash token (sym e ∙ signs_here b w (separator_not_word b s) (separator_not_digit b s) ∙ no_signs b w s))) (λ s. s)
   where
     clash : (token : PlainToken) → (let a : Result PlainToken What = Ok token in a ≡ Err BadByte) → ⊥
     clash token e = cc
@@ -32,14 +34,11 @@ token_begins b w token e = by_test (is_separator b) (λ s. absurd (clash token (
 over_gap : (at : ℕ) (gap bytes : List ℕ) → are_separators gap ≡ true → tokens_from 0 at (gap ++ bytes) ≡ tokens_from 0 (at + length gap) bytes
 over_gap at [] bytes h = rw add-zero refl
 over_gap at (b ∷ gap) bytes h =
-    let p = both (is_separator b) (are_separators gap) h in
+    let p = and_parts (is_separator b) (are_separators gap) h in
     step_over at b (gap ++ bytes) p.0 ∙ over_gap (at + 1) gap bytes p.1 ∙ ap (λ z. tokens_from 0 z bytes) (later at (length gap))
   where
     later : (at n : ℕ) → at + 1 + n ≡ at + suc n
     later at n = omega arith
-
-nothing_said : (token : PlainToken) → said [] ≡ Ok token → ⊥
-nothing_said token e = cc
 
 -- a token is taken where it stands
 taken_here : (at : ℕ) (w rest : List ℕ) (token : PlainToken) → said w ≡ Ok token → IsLongest (w ++ rest) (length w) → tokens_from 0 at (w ++ rest) ≡ taken at (length w) (Ok token) (tokens_from 0 (at + length w) rest)
@@ -51,6 +50,7 @@ taken_here at (b ∷ w) rest token e l =
     one_taken at n b (w ++ rest) token (token_begins b w token e) (longest_is (b ∷ w ++ rest) n l) (ap said t ∙ e)
     ∙ ap (λ r. taken at n (Ok token) (tokens_from 0 (at + n) r)) d
 
+-- a token behind separators is taken
 then_taken : (at : ℕ) (bytes : List ℕ) (spot : Spot) (rest : List ℕ) → IsTokenThen at bytes spot rest → (n : ℕ) × (tokens_from 0 at bytes ≡ taken spot.from n (Ok spot.says) (tokens_from 0 spot.to rest)) × (spot.to ≡ spot.from + n)
 then_taken at bytes spot rest t =
     let n = length t.token in
@@ -61,6 +61,7 @@ then_taken at bytes spot rest t =
       t.to,
     )
 
+-- a reading of the whole line gives its tokens
 pub answer_well : (at : ℕ) (bytes : List ℕ) (spots : List Spot) → Reads EndsWell at bytes spots → tokens_from 0 at bytes ≡ Ok spots
 answer_well at bytes [] r = ap (tokens_from 0 at) (sym (append-nil bytes)) ∙ over_gap at bytes [] r.separators
 answer_well at bytes (spot ∷ spots) r =
@@ -68,10 +69,12 @@ answer_well at bytes (spot ∷ spots) r =
     let ih = answer_well spot.to r.0 spots r.2 in
     t.1 ∙ ap (taken spot.from t.0 (Ok spot.says)) ih ∙ ap (λ z. Ok (record { says = spot.says; from = spot.from; to = z } ∷ spots)) (sym t.2)
 
+-- an error where it stands
 fault_end : (fault : Fault) (at : ℕ) (rest : List ℕ) → 0 < length rest → is_separator (get_or rest 0 0) ≡ false → fault.column ≡ at + 1 → ((n : ℕ) → IsLongest rest n → said (take n rest) ≡ Err fault.what) → tokens_from 0 at rest ≡ Err fault
 fault_end fault at [] some h c e = absurd (omega arith)
 fault_end fault at (b ∷ rest) some h c e = none_taken at b rest fault.what h (e (longest (b ∷ rest)) (longest_holds (b ∷ rest))) ∙ ap (λ z. Err (record { column = z; what = fault.what })) (sym c)
 
+-- a reading up to an error gives the error
 pub answer_in : (fault : Fault) (at : ℕ) (bytes : List ℕ) (spots : List Spot) → Reads (EndsIn fault) at bytes spots → tokens_from 0 at bytes ≡ Err fault
 answer_in fault at bytes [] r = ap (tokens_from 0 at) r.parts ∙ over_gap at r.gap r.rest r.separators ∙ fault_end fault (at + length r.gap) r.rest r.some r.byte r.column r.error
 answer_in fault at bytes (spot ∷ spots) r =
@@ -81,6 +84,7 @@ answer_in fault at bytes (spot ∷ spots) r =
 
 -- ---- slices
 
+-- a token has bytes
 some_token : (w : List ℕ) (token : PlainToken) → said w ≡ Ok token → 0 < length w
 some_token [] token e = absurd (nothing_said token e)
 some_token (b ∷ w) token e = omega arith
@@ -93,6 +97,7 @@ record IsPlaced (line : List ℕ) (at : ℕ) (spot : Spot) (rest : List ℕ) : T
   within : spot.to ≤ length line
   behind : rest ≡ drop spot.to line
 
+-- a token that is read stands in its line
 placed_in : (line : List ℕ) (at : ℕ) (spot : Spot) (rest : List ℕ) → at ≤ length line → IsTokenThen at (drop at line) spot rest → IsPlaced line at spot rest
 placed_in line at spot rest h t =
     let n = length t.token in
@@ -113,6 +118,7 @@ placed_in line at spot rest h t =
       behind = sym (ap (λ k. drop k line) t.to ∙ sym (drop-drop n spot.from line) ∙ ap (drop n) here ∙ drop_at t.token rest n refl);
     }
 
+-- tokens that are read are slices from a place on
 slices_from : (line : List ℕ) (at : ℕ) (spots : List Spot) → at ≤ length line → Reads EndsWell at (drop at line) spots → AreSlices line at spots
 slices_from line at [] h r = h
 slices_from line at (spot ∷ spots) h r =

@@ -10,11 +10,13 @@ use Rattle.lhg_lex.specs.declared.stops.ReadStop.{ReadStop}
 use Rattle.lhg_lex.specs.declared.stops.ReadStop.TheVariants.{Bad, Memory}
 use Rattle.lhg_lex.specs.declared.tokens.Token.{Token}
 use Rattle.lhg_lex.specs.declared.tokens.Line.{Line}
+use Rattle.lhg_lex.proofs.Results.{ok_same, ok_not_err}
 use Rattle.lhg_lex.proofs.ContentFronts.{content_front, before_front}
-use Rattle.lhg_lex.proofs.TextLines.{is_feed, line_here, next_place, none_left}
+use Rattle.lhg_lex.proofs.TextLines.{is_feed, line_here, next_within, next_place, none_left}
 use Rattle.lhg_lex.proofs.ReadingAnswers.{slices_of}
-use Rattle.lhg_lex.proofs.TextSlices.{says_in, order_in}
+use Rattle.lhg_lex.proofs.TextSlices.{says_in, spans_in, order_in}
 
+-- a text of which n lines are read
 abbrev pub reading : List ℕ → ℕ → Reading
 reading bytes n = record { bytes = bytes; read = n }
 
@@ -25,6 +27,7 @@ pub record IsPassed (bytes : List ℕ) (n m : ℕ) : Type 0 where
   pub blank : AllByRecursion IsBlankLine blanks
   pub count : m ≡ n + length blanks
 
+-- no line is passed at first
 pub none_passed : (bytes : List ℕ) (n : ℕ) → IsPassed bytes n n
 none_passed bytes n = record { blanks = []; left = refl; blank = tt; count = omega arith }
 
@@ -32,14 +35,17 @@ none_passed bytes n = record { blanks = []; left = refl; blank = tt; count = ome
 abbrev pub line_at : List ℕ → ℕ → List ℕ
 line_at bytes place = before_first is_feed (drop place bytes)
 
+-- the line at the place is the next
 next_by : (bytes : List ℕ) (n m place : ℕ) → IsPassed bytes n m → IsAt bytes place m → place < length bytes → IsNext (reading bytes n) m (line_at bytes place)
 next_by bytes n m place p at lt = record {
   blanks = p.blanks;
   left = p.left ∙ ap (λ ls. p.blanks ++ ls) (line_here bytes place m at lt);
   blank = p.blank;
   count = p.count;
+  within = let w = next_within m (lines_of bytes) (line_at bytes place) (drop (m + 1) (lines_of bytes)) (line_here bytes place m at lt) in omega (arith, w);
 }
 
+-- one more blank line
 all_more : (lines : List (List ℕ)) (line : List ℕ) → AllByRecursion IsBlankLine lines → IsBlankLine line → AllByRecursion IsBlankLine (lines ++ (line ∷ []))
 all_more [] line h b = (b, tt)
 all_more (l ∷ lines) line h b = (h.0, all_more lines line h.1 b)
@@ -53,6 +59,7 @@ passed_more bytes n m place p at lt b = record {
   count = omega (arith, p.count, length-append p.blanks (line_at bytes place ∷ []));
 }
 
+-- the tokens of a line are those of what counts
 tokens_are : (line : List ℕ) → tokens_from 0 0 (content_of line) ≡ tokens_of line
 unfolding tokens_of
 tokens_are line = refl
@@ -63,16 +70,12 @@ record AreSpots (start : ℕ) (answer : Result (List Spot) Fault) (tokens : List
   reads : answer ≡ Ok spots
   placed_at : tokens ≡ map (placed start) spots
 
+-- tokens of a text are tokens of a line
 spots_of : (start : ℕ) (answer : Result (List Spot) Fault) (tokens : List Token) → all_placed start answer ≡ Ok tokens → AreSpots start answer tokens
-spots_of start (Ok spots) tokens e = record { spots = spots; reads = refl; placed_at = ok_eq tokens (map (placed start) spots) (sym e) }
-  where
-    ok_eq : (a b : List Token) → (let x : Result (List Token) Fault = Ok a in let y : Result (List Token) Fault = Ok b in x ≡ y) → a ≡ b
-    ok_eq a b e = cc
-spots_of start (Err fault) tokens e = absurd (clash fault tokens e)
-  where
-    clash : (fault : Fault) (tokens : List Token) → (let x : Result (List Token) Fault = Err fault in let y : Result (List Token) Fault = Ok tokens in x ≡ y) → ⊥
-    clash fault tokens e = cc
+spots_of start (Ok spots) tokens e = record { spots = spots; reads = refl; placed_at = ok_same (sym e) }
+spots_of start (Err fault) tokens e = absurd (ok_not_err (sym e))
 
+-- no tokens in the text are none in the line
 no_spots : (start : ℕ) (spots : List Spot) → length (map (placed start) spots) ≡ 0 → spots ≡ []
 no_spots start [] e = refl
 no_spots start (spot ∷ spots) e = absurd (omega (arith, e))
@@ -101,6 +104,7 @@ token_line bytes n m place found number p at lt e some =
     let h = slices_of (content_of line) s.spots s.reads in
     let here = content_here bytes place in
     let size : place + length (content_of line) ≤ length bytes = let a = ap length here.1 in let b = length-append (content_of line) here.0 in let d = length-drop place bytes in omega (arith, a, b, d) in
+    let order : InOrder 0 found.tokens.items (length bytes) = subst (λ ts. InOrder 0 ts (length bytes)) (sym s.placed_at) (order_in bytes (content_of line) place 0 0 s.spots size (omega arith) h) in
     record {
       before = m;
       bytes = line;
@@ -111,7 +115,8 @@ token_line bytes n m place found number p at lt e some =
       some = let a = ap length s.placed_at in let b = length-map s.spots (placed place) in omega (arith, a, b, some);
       placed_at = s.placed_at ∙ ap (λ k. map (placed k) s.spots) at.begins;
       says = ap (λ said. record { number = found.number; tokens = said }) (ap (λ ts. map (plain_of bytes) ts) s.placed_at ∙ says_in bytes (content_of line) here.0 place 0 s.spots here.1 h);
-      order = subst (λ ts. InOrder 0 ts (length bytes)) (sym s.placed_at) (order_in bytes (content_of line) place 0 0 s.spots size (omega arith) h);
+      spans = spans_in bytes 0 found.tokens.items order;
+      order = order;
     }
 
 -- a line with a token error is the next
@@ -139,11 +144,13 @@ pub record IsCut (bytes : List ℕ) (place : ℕ) (line content : List ℕ) : Ty
   pub line_is : line ≡ before_first is_feed (take (length bytes - place) (drop place bytes))
   pub content_is : content ≡ content_of line
 
+-- it is the line at the place
 cut_here : (bytes : List ℕ) (place : ℕ) (line content : List ℕ) → IsCut bytes place line content → (line ≡ line_at bytes place) × (content ≡ content_of (line_at bytes place))
 cut_here bytes place line content c =
     let e : line ≡ line_at bytes place = c.line_is ∙ ap (before_first is_feed) (take_rest bytes place) in
     (e, c.content_is ∙ ap content_of e)
 
+-- what counts of it lies in the text
 pub cut_short : (bytes : List ℕ) (place : ℕ) (line content : List ℕ) → IsCut bytes place line content → place < length bytes → place + length content ≤ length bytes
 cut_short bytes place line content c lt =
     let h = cut_here bytes place line content c in
@@ -154,22 +161,26 @@ cut_short bytes place line content c lt =
     let s = ap length h.1 in
     omega (arith, a, b, d, s)
 
+-- the place behind it
 pub cut_place : (bytes : List ℕ) (n place : ℕ) (line content : List ℕ) → IsCut bytes place line content → IsAt bytes place n → place < length bytes → IsAt bytes (place + (length line + 1)) (n + 1)
 cut_place bytes n place line content c at lt =
     let s = ap length (cut_here bytes place line content c).0 in
     let e : place + length (line_at bytes place) + 1 ≡ place + (length line + 1) = omega (arith, s) in
     subst (λ p. IsAt bytes p (n + 1)) e (next_place bytes place n at lt)
 
+-- its tokens, where it has some
 pub cut_tokens : (bytes : List ℕ) (n m place : ℕ) (line content : List ℕ) (found : Line) → found.number ≡ m + 1 → IsCut bytes place line content → IsPassed bytes n m → IsAt bytes place m → place < length bytes
     → all_placed place (tokens_from 0 0 content) ≡ Ok found.tokens.items → 0 < length found.tokens.items → IsTokenLine (reading bytes n) found
 cut_tokens bytes n m place line content found number c p at lt e some =
     token_line bytes n m place found number p at lt (subst (λ w. all_placed place (tokens_from 0 0 w) ≡ Ok found.tokens.items) (cut_here bytes place line content c).1 e) some
 
+-- it is passed where it has none
 pub cut_blank : (bytes : List ℕ) (n m place : ℕ) (line content : List ℕ) (tokens : List Token) → IsCut bytes place line content → IsPassed bytes n m → IsAt bytes place m → place < length bytes
     → all_placed place (tokens_from 0 0 content) ≡ Ok tokens → length tokens ≡ 0 → IsPassed bytes n (m + 1)
 cut_blank bytes n m place line content tokens c p at lt e none =
     passed_more bytes n m place p at lt (blank_line place (line_at bytes place) tokens (subst (λ w. all_placed place (tokens_from 0 0 w) ≡ Ok tokens) (cut_here bytes place line content c).1 e) none)
 
+-- its token error
 pub cut_stop : (bytes : List ℕ) (n m place : ℕ) (line content : List ℕ) (stop : ReadStop) → IsCut bytes place line content → IsPassed bytes n m → IsAt bytes place m → place < length bytes
     → IsStopAt (m + 1) (tokens_from 0 0 content) stop → IsStop (reading bytes n) stop
 cut_stop bytes n m place line content stop c p at lt e =

@@ -9,6 +9,8 @@ use Rattle.lhg_lex.specs.TextTokens.{all_placed, placed, kind_of, kind_said}
 use Rattle.lhg_lex.specs.declared.stops.What.{What}
 use Rattle.lhg_lex.specs.declared.tokens.Tok.{Tok}
 use Rattle.lhg_lex.specs.declared.tokens.Token.{Token}
+use Rattle.lhg_lex.proofs.Results.{ok_same, err_same, ok_not_err}
+use Rattle.lhg_lex.proofs.TokenStarts.{nothing_said}
 use Rattle.lhg_lex.proofs.LongestLemmas.{longest_is}
 
 -- tokens, and then those that follow or their error
@@ -25,6 +27,7 @@ pass (suc k) at (b ∷ bytes) = pass k (suc at) bytes ∙ ap (λ z. tokens_from 
     later : (at k : ℕ) → suc at + k ≡ at + suc k
     later at k = omega arith
 
+-- a separator at the front is passed
 pub step_over : (at b : ℕ) (bytes : List ℕ) → is_separator b ≡ true → tokens_from 0 at (b ∷ bytes) ≡ tokens_from 0 (at + 1) bytes
 step_over at b bytes h = rw h (ap (λ z. tokens_from 0 z bytes) (sym (add-one at)))
 
@@ -39,40 +42,32 @@ taken_at at n b bytes h e = rw (h, e) (ap (taken at (suc n) (said (take (suc n) 
     rest : (at n : ℕ) (bytes : List ℕ) → tokens_from 0 (suc at + (suc n - 1)) (drop (suc n - 1) bytes) ≡ tokens_from 0 (at + suc n) (drop n bytes)
     rest at n bytes = let e : suc n - 1 ≡ n = omega arith in let f : suc at + n ≡ at + suc n = omega arith in rw (e, f) refl
 
-clash : {A B : Type 0} (x : A) (y : B) → let E : Type 0 = Result A B in (let l : E = Ok x in let r : E = Err y in l ≡ r) → ⊥
-clash x y e = cc
-
--- what a kind tells of a token, and an error of an error
+-- what a kind tells of a token
 token_of_kind : (r : Result PlainToken What) (kind : Tok) → Ok kind ≡ kind_said r → (token : PlainToken) × (r ≡ Ok token) × (kind ≡ kind_of token)
-token_of_kind (Ok token) kind e = (token, refl, ok_eq kind (kind_of token) e)
-  where
-    ok_eq : (k l : Tok) → (let a : Result Tok What = Ok k in let b : Result Tok What = Ok l in a ≡ b) → k ≡ l
-    ok_eq k l e = cc
-token_of_kind (Err what) kind e = absurd (clash kind what e)
+token_of_kind (Ok token) kind e = (token, refl, ok_same e)
+token_of_kind (Err what) kind e = absurd (ok_not_err e)
 
+-- and an error of an error
 error_of_kind : (r : Result PlainToken What) (what : What) → Err what ≡ kind_said r → r ≡ Err what
-error_of_kind (Ok token) what e = absurd (clash (kind_of token) what (sym e))
-error_of_kind (Err w) what e = err_eq what w e
-  where
-    err_eq : (v w : What) → (let a : Result Tok What = Err v in let b : Result Tok What = Err w in a ≡ b) → (let c : Result PlainToken What = Err w in let d : Result PlainToken What = Err v in c ≡ d)
-    err_eq v w e = cc
+error_of_kind (Ok token) what e = absurd (ok_not_err (sym e))
+error_of_kind (Err w) what e = ap (λ v. Err v) (sym (err_same e))
 
 -- where no token stands, no bytes are one
 pub none_taken : (at b : ℕ) (bytes : List ℕ) (what : What) → is_separator b ≡ false → said (take (longest (b ∷ bytes)) (b ∷ bytes)) ≡ Err what → tokens_from 0 at (b ∷ bytes) ≡ Err (record { column = at + 1; what = what })
 none_taken at b bytes what h e = rw (h, e) refl
 
+-- a token error at a place of the line
 fault_at : (line : List ℕ) (at : ℕ) (what : What) → at < length line → is_separator (get_or line at 0) ≡ false → said (take (longest (drop at line)) (drop at line)) ≡ Err what → tokens_from 0 at (drop at line) ≡ Err (record { column = at + 1; what = what })
 fault_at line at what lt h e =
     let d = drop_more line at 0 lt in
     ap (tokens_from 0 at) d ∙ none_taken at (get_or line at 0) (drop (at + 1) line) what h (ap (λ w. said (take (longest w) w)) (sym d) ∙ e)
 
+-- a token at the front is taken
 pub one_taken : (at n b : ℕ) (bytes : List ℕ) (token : PlainToken) → is_separator b ≡ false → longest (b ∷ bytes) ≡ n → said (take n (b ∷ bytes)) ≡ Ok token → tokens_from 0 at (b ∷ bytes) ≡ taken at n (Ok token) (tokens_from 0 (at + n) (drop n (b ∷ bytes)))
 one_taken at zero b bytes token h l e = absurd (nothing_said token e)
-  where
-    nothing_said : (token : PlainToken) → said [] ≡ Ok token → ⊥
-    nothing_said token e = cc
 one_taken at (suc n) b bytes token h l e = taken_at at n b bytes h l ∙ ap (λ r. taken at (suc n) r (tokens_from 0 (at + suc n) (drop n bytes))) e
 
+-- and at a place of the line
 token_at : (line : List ℕ) (at n : ℕ) (token : PlainToken) → at < length line → is_separator (get_or line at 0) ≡ false → longest (drop at line) ≡ n → said (take n (drop at line)) ≡ Ok token → tokens_from 0 at (drop at line) ≡ taken at n (Ok token) (tokens_from 0 (at + n) (drop (at + n) line))
 token_at line at n token lt h l e =
     let d = drop_more line at 0 lt in
@@ -80,17 +75,16 @@ token_at line at n token lt h l e =
     ∙ one_taken at n (get_or line at 0) (drop (at + 1) line) token h (ap longest (sym d) ∙ l) (ap (λ w. said (take n w)) (sym d) ∙ e)
     ∙ ap (λ w. taken at n (Ok token) (tokens_from 0 (at + n) w)) (ap (drop n) (sym d) ∙ drop-drop n at line)
 
+-- a token that is taken joins those so far
 placed_more : (start : ℕ) (tokens : List Token) (at n : ℕ) (token : PlainToken) (rest : Result (List Spot) Fault) →
     followed tokens (all_placed start (taken at n (Ok token) rest)) ≡ followed (tokens ++ (placed start (record { says = token; from = at; to = at + n }) ∷ [])) (all_placed start rest)
 placed_more start tokens at n token (Ok spots) = ap (λ ts. Ok ts) (sym (append_assoc tokens (placed start (record { says = token; from = at; to = at + n }) ∷ []) (map (placed start) spots)))
 placed_more start tokens at n token (Err fault) = refl
 
+-- an error of the text is one of the line
 faulty : (start : ℕ) (r : Result (List Spot) Fault) (fault : Fault) → all_placed start r ≡ Err fault → r ≡ Err fault
-faulty start (Ok spots) fault e = absurd (clash (map (placed start) spots) fault e)
-faulty start (Err f) fault e = err_eq f fault e
-  where
-    err_eq : (f g : Fault) → (let a : Result (List Token) Fault = Err f in let b : Result (List Token) Fault = Err g in a ≡ b) → (let c : Result (List Spot) Fault = Err f in let d : Result (List Spot) Fault = Err g in c ≡ d)
-    err_eq f g e = cc
+faulty start (Ok spots) fault e = absurd (ok_not_err e)
+faulty start (Err f) fault e = ap (λ g. Err g) (err_same e)
 
 -- ---- the turns of the reading of a line
 
@@ -99,6 +93,7 @@ pub record IsScanned (start : ℕ) (line : List ℕ) (tokens : List Token) (at :
   pub within : at ≤ length line
   pub same : followed tokens (all_placed start (tokens_from 0 at (drop at line))) ≡ all_placed start (tokens_from 0 0 line)
 
+-- at first there are no tokens
 pub scan_start : (start : ℕ) (line : List ℕ) → IsScanned start line [] 0
 scan_start start line = record { within = omega arith; same = nothing (all_placed start (tokens_from 0 0 line)) }
   where
@@ -106,12 +101,14 @@ scan_start start line = record { within = omega arith; same = nothing (all_place
     nothing (Ok more) = refl
     nothing (Err fault) = refl
 
+-- behind a separator
 pub scan_separator : (start : ℕ) (line : List ℕ) (tokens : List Token) (at : ℕ) → IsScanned start line tokens at → at < length line → is_separator (get_or line at 0) ≡ true → IsScanned start line tokens (at + 1)
 scan_separator start line tokens at s lt h = record {
   within = omega arith;
   same = ap (λ r. followed tokens (all_placed start r)) (sym (at_separator line at lt h)) ∙ s.same;
 }
 
+-- behind a token
 pub scan_token : (start : ℕ) (line : List ℕ) (tokens : List Token) (at n : ℕ) (kind : Tok) → IsScanned start line tokens at → at < length line → is_separator (get_or line at 0) ≡ false
     → IsLongest (take (length line - at) (drop at line)) n → Ok kind ≡ kind_said (said (take (at + n - at) (drop at line)))
     → IsScanned start line (tokens ++ (record { kind = kind; from = start + at; to = start + at + n } ∷ [])) (at + n)
@@ -133,6 +130,7 @@ scan_token start line tokens at n kind s lt h l e =
         let sum : start + at + n ≡ start + (at + n) = omega arith in
         ap (λ k. made k (start + at + n)) e ∙ ap (λ to. made (kind_of token) to) sum
 
+-- at a token error
 pub scan_fault : (start : ℕ) (line : List ℕ) (tokens : List Token) (at n : ℕ) (what : What) → IsScanned start line tokens at → at < length line → is_separator (get_or line at 0) ≡ false
     → IsLongest (take (length line - at) (drop at line)) n → Err what ≡ kind_said (said (take (at + n - at) (drop at line)))
     → tokens_from 0 0 line ≡ Err (record { column = at + 1; what = what })
@@ -145,6 +143,7 @@ scan_fault start line tokens at n what s lt h l e =
     let g = fault_at line at what lt h (ap (λ k. said (take k (drop at line))) same ∙ f) in
     faulty start (tokens_from 0 0 line) (record { column = at + 1; what = what }) (sym s.same ∙ ap (λ r. followed tokens (all_placed start r)) g)
 
+-- at the end of the line
 pub scan_end : (start : ℕ) (line : List ℕ) (tokens : List Token) (at : ℕ) → IsScanned start line tokens at → length line ≤ at → all_placed start (tokens_from 0 0 line) ≡ Ok tokens
 scan_end start line tokens at s past =
     sym s.same ∙ ap (λ w. followed tokens (all_placed start (tokens_from 0 at w))) (drop_all at line past) ∙ ap (λ ts. Ok ts) (append-nil tokens)

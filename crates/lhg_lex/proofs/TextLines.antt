@@ -8,13 +8,16 @@ use Rattle.std.proofs.lemmas.Bool.{cases_lt}
 use Rattle.lhg_lex.specs.Lines.{lines_of, without_empty_last}
 use Rattle.lhg_lex.specs.Reading.{start_of, IsAt}
 
+-- a line feed
 abbrev pub is_feed : ℕ → Bool
 is_feed b = b == 10
 
+-- a byte joins some part
 some_onto : (b : ℕ) (parts : List (List ℕ)) → (x : List ℕ) × (xs : List (List ℕ)) × (onto_first b parts ≡ x ∷ xs)
 some_onto b [] = (_, _, refl)
 some_onto b (part ∷ parts) = (_, _, refl)
 
+-- in either case there is a part
 some_if : (t : Bool) (b : ℕ) (parts : List (List ℕ)) → (x : List ℕ) × (xs : List (List ℕ)) × (cond t ([] ∷ parts) (onto_first b parts) ≡ x ∷ xs)
 some_if true b parts = (_, _, refl)
 some_if false b parts = some_onto b parts
@@ -24,15 +27,18 @@ pub some_part : (bytes : List ℕ) → (x : List ℕ) × (xs : List (List ℕ)) 
 some_part [] = (_, _, refl)
 some_part (b ∷ bytes) = some_if (is_feed b) b (slice_split is_feed bytes)
 
+-- a first part stays where another follows
 pub kept_first : (part : List ℕ) (parts : List (List ℕ)) → (x : List ℕ) (xs : List (List ℕ)) → parts ≡ x ∷ xs → without_empty_last (part ∷ parts) ≡ part ∷ without_empty_last parts
 kept_first [] parts x xs e = rw e refl
 kept_first (b ∷ bytes) parts x xs e = rw e refl
 
+-- the first line ends at the first line feed
 lines_with_feed : (bytes : List ℕ) → position_or_len is_feed bytes < length bytes → lines_of bytes ≡ before_first is_feed bytes ∷ lines_of (after_first is_feed bytes)
 lines_with_feed bytes h =
     let p = some_part (after_first is_feed bytes) in
     ap without_empty_last (slice_split_first is_feed bytes 0 h) ∙ kept_first _ _ p.0 p.1 p.2
 
+-- a text without a line feed is one line
 pub lines_without_feed : (bytes : List ℕ) → 0 < length bytes → All (λ b. is_feed b ≡ false) bytes → lines_of bytes ≡ bytes ∷ []
 lines_without_feed [] some h = absurd (omega arith)
 lines_without_feed (b ∷ bytes) some h = ap without_empty_last (slice_split_none is_feed (b ∷ bytes) h)
@@ -51,10 +57,12 @@ first_line bytes some = go (cases_lt (position_or_len is_feed bytes) (length byt
         ∙ ap (λ w. w ∷ []) (sym all)
         ∙ ap (λ ws. before_first is_feed bytes ∷ ws) (sym (ap (λ w. lines_of w) (drop_all (length (before_first is_feed bytes) + 1) bytes (omega (arith, ap length all)))))
 
+-- behind no lines
 no_lines : (n : ℕ) → start_of n [] ≡ 0
 no_lines zero = refl
 no_lines (suc n) = refl
 
+-- no lines are left of none
 drop_none : (n : ℕ) → (let none : List (List ℕ) = [] in drop n none ≡ none)
 drop_none zero = refl
 drop_none (suc n) = refl
@@ -72,16 +80,19 @@ lines_from (suc n) (b ∷ more) =
     ∙ ap (λ w. lines_of w) (sym (drop-drop (start_of n (lines_of rest)) (length line + 1) bytes))
     ∙ lines_from n rest ∙ ap (drop (suc n)) (sym e)
 
+-- the lines behind a line
 drop_next : (n : ℕ) (lines : List (List ℕ)) (line : List ℕ) (more : List (List ℕ)) → drop n lines ≡ line ∷ more → drop (n + 1) lines ≡ more
 drop_next n lines line more e = sym (drop-drop 1 n lines) ∙ ap (drop 1) e
 
+-- the next line begins behind a line and its line feed
 start_next : (n : ℕ) (lines : List (List ℕ)) (line : List ℕ) (more : List (List ℕ)) → drop n lines ≡ line ∷ more → start_of (n + 1) lines ≡ start_of n lines + (length line + 1)
 start_next zero [] line more e = absurd cc
 start_next zero (l ∷ lines) line more e = let f : l ≡ line = cc in omega (arith, ap length f)
 start_next (suc n) [] line more e = absurd cc
 start_next (suc n) (l ∷ lines) line more e = rw (add-one (suc n)) (let h = start_next n lines line more e in let k = rw (add-one n) at h in omega (arith, k))
 
-next_within : (n : ℕ) (lines : List (List ℕ)) (line : List ℕ) (more : List (List ℕ)) → drop n lines ≡ line ∷ more → n + 1 ≤ length lines
+-- a line that is left is one of the text
+pub next_within : (n : ℕ) (lines : List (List ℕ)) (line : List ℕ) (more : List (List ℕ)) → drop n lines ≡ line ∷ more → n + 1 ≤ length lines
 next_within n lines line more e =
     let s = ap length e in
     let d = length-drop n lines in
@@ -89,6 +100,7 @@ next_within n lines line more e =
 
 -- ---- a place where a line begins
 
+-- at the start
 pub at_start : (bytes : List ℕ) → IsAt bytes 0 0
 at_start bytes = record { begins = refl; within = omega arith }
 
@@ -119,6 +131,7 @@ none_left bytes place n at past =
     let w = at.within in
     (e, omega (arith, s, d))
 
+-- no more lines than bytes and line feeds stand before a place
 starts_above : (n : ℕ) (lines : List (List ℕ)) → n ≤ length lines → n ≤ start_of n lines
 starts_above zero lines h = omega arith
 starts_above (suc n) [] h = absurd (omega arith)

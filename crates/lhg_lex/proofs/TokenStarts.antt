@@ -1,20 +1,24 @@
 -- A token's first byte says of which kind it is.
 use Rattle.std.proofs.Common.{◌≡◌, ◌<◌, ℕ, List, [], ◌∷◌, length, refl, sym, ◌∙◌, Bool, true, false, arith, ◌||◌, ◌==◌, Ok, get_or}
+use Rattle.std.proofs.lemmas.Bool.{true≢false}
+use Rattle.lhg_math.specs.Tests.{by_bool}
 use Rattle.std.specs.List.{list_all}
 use Rattle.lhg_lex.specs.Word.{is_digit, begins_word, continues_word}
 use Rattle.lhg_lex.specs.Digits.{is_run}
 use Rattle.lhg_lex.specs.Literal.{before, is_number, number_of}
 use Rattle.lhg_lex.specs.Token.{is_token, is_signs, said, number_said, signs_said, is_sign_byte, is_pair}
-use Rattle.lhg_lex.specs.PlainToken.{word}
-use Rattle.lhg_lex.proofs.Fronts.{by_test, suc_is}
+use Rattle.lhg_lex.specs.PlainToken.{PlainToken, word}
+use Rattle.lhg_lex.proofs.Fronts.{suc_is}
 use Rattle.lhg_lex.proofs.Bytes.{word_not_digit, digit_not_word, word_not_sign, word_not_pair, digit_not_sign, digit_not_pair}
 
+-- a test or nothing
 or_false : (t : Bool) → (t || false) ≡ t
 or_false true = refl
 or_false false = refl
 
+-- no digits stand before a mark
 no_run : (mark b : ℕ) (w : List ℕ) → is_digit b ≡ false → is_run (before mark (b ∷ w)) ≡ false
-no_run mark b w h = by_test (b == mark) (λ e. rw e refl) (λ e. rw (e, suc_is, h) refl)
+no_run mark b w h = by_bool (b == mark) (λ e. rw e refl) (λ e. rw (e, suc_is, h) refl)
 
 -- bytes that begin with no digit are no number
 pub no_number : (b : ℕ) (w : List ℕ) → is_digit b ≡ false → is_number (b ∷ w) ≡ false
@@ -23,6 +27,7 @@ no_number b w h =
     let d = no_run 46 b w h in
     rw (h, f, d) refl
 
+-- what begins with no sign is no sign
 pub signs_from : (b : ℕ) (w : List ℕ) → is_sign_byte b ≡ false → ((c : ℕ) → is_pair b c ≡ false) → is_signs (b ∷ w) ≡ false
 signs_from b [] h k = h
 signs_from b (c ∷ []) h k = k c
@@ -48,38 +53,47 @@ signs_token b w h k =
     let n = no_number b w k in
     rw (n, h) refl
 
+-- a token that begins a word says the word
 pub word_here : (b : ℕ) (w : List ℕ) → begins_word b ≡ true → is_token (b ∷ w) ≡ true → said (b ∷ w) ≡ Ok (word (b ∷ w))
 word_here b w h t =
     let e : list_all continues_word w ≡ true = sym (word_token b w h) ∙ t in
     rw (h, e) refl
 
+-- a token that begins with a digit says a number
 pub number_here : (b : ℕ) (w : List ℕ) → is_digit b ≡ true → is_token (b ∷ w) ≡ true → (is_number (b ∷ w) ≡ true) × (said (b ∷ w) ≡ number_said (number_of (b ∷ w)))
 number_here b w h t =
     let e : is_number (b ∷ w) ≡ true = sym (number_token b w h) ∙ t in
     let l = digit_not_word b h in
     (e, rw (l, e) refl)
 
+-- a token that begins otherwise says signs
 pub signs_here : (b : ℕ) (w : List ℕ) → begins_word b ≡ false → is_digit b ≡ false → said (b ∷ w) ≡ signs_said (b ∷ w)
 signs_here b w h k =
     let n = no_number b w k in
     rw (h, n) refl
 
 -- ---- the same of bytes that are not taken apart
+
+-- a word
 pub word_said : (t : List ℕ) → 0 < length t → is_token t ≡ true → begins_word (get_or t 0 0) ≡ true → said t ≡ Ok (word t)
 word_said [] some h l = absurd (omega arith)
 word_said (b ∷ w) some h l = word_here b w l h
 
+-- a number
 pub number_is_said : (t : List ℕ) → 0 < length t → is_token t ≡ true → is_digit (get_or t 0 0) ≡ true → (is_number t ≡ true) × (said t ≡ number_said (number_of t))
 number_is_said [] some h d = absurd (omega arith)
 number_is_said (b ∷ w) some h d = number_here b w d h
 
+-- signs
 pub signs_are_said : (t : List ℕ) → 0 < length t → is_token t ≡ true → begins_word (get_or t 0 0) ≡ false → is_digit (get_or t 0 0) ≡ false → (is_signs t ≡ true) × (said t ≡ signs_said t)
 signs_are_said [] some h l d = absurd (omega arith)
 signs_are_said (b ∷ w) some h l d = (sym (signs_token b w l d) ∙ h, signs_here b w l d)
 
+-- bytes that are not empty are some
 pub some_from_not_empty : (t : List ℕ) (e : Bool) → e ≡ (length t == 0) → e ≡ false → 0 < length t
-some_from_not_empty [] e is f = absurd (clash (sym is ∙ f))
-  where
-    clash : true ≡ false → ⊥
-    clash e = cc
+some_from_not_empty [] e is f = absurd (true≢false (sym is ∙ f))
 some_from_not_empty (b ∷ w) e is f = omega arith
+
+-- no bytes are a token
+pub nothing_said : (token : PlainToken) → said [] ≡ Ok token → ⊥
+nothing_said token e = cc

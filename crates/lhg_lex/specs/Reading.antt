@@ -1,9 +1,9 @@
 -- Which line of a text comes next, and what is read of it?
-use Rattle.std.specs.Prelude.{◌≡◌, ℕ, zero, suc, ◌+◌, ◌<◌, ◌≤◌, List, [], ◌∷◌, ◌++◌, length, drop, map, Ok, Err, ⊤}
+use Rattle.std.specs.Prelude.{◌≡◌, ℕ, zero, suc, ◌+◌, ◌<◌, ◌≤◌, List, [], ◌∷◌, ◌++◌, length, drop, map, All, Ok, Err, ⊤}
 use Rattle.std.specs.List.{AllByRecursion}
 use Rattle.lhg_lex.specs.Lines.{lines_of}
 use Rattle.lhg_lex.specs.LineTokens.{Spot, tokens_of, IsBlankLine}
-use Rattle.lhg_lex.specs.TextTokens.{placed, plain_line, InOrder}
+use Rattle.lhg_lex.specs.TextTokens.{placed, plain_line, IsSpan, InOrder}
 use Rattle.lhg_lex.specs.declared.stops.What.{What}
 use Rattle.lhg_lex.specs.declared.stops.ReadStop.{ReadStop}
 use Rattle.lhg_lex.specs.declared.stops.ReadStop.TheVariants.{Bad, Memory}
@@ -35,6 +35,7 @@ pub record IsNext (s : Reading) (n : ℕ) (line : List ℕ) : Type 0 where
   pub left : left_of s ≡ blanks ++ (line ∷ left_of (record s { read = n + 1 }))
   pub blank : AllByRecursion IsBlankLine blanks
   pub count : n ≡ s.read + length blanks
+  pub within : n < length (lines_of s.bytes)
 
 -- all lines that are left are blank
 pub record IsAtEnd (s : Reading) : Type 0 where
@@ -51,6 +52,7 @@ pub record IsTokenLine (s : Reading) (line : Line) : Type 0 where
   pub some : 0 < length spots
   pub placed_at : line.tokens.items ≡ map (placed (start_of before (lines_of s.bytes))) spots
   pub says : plain_line s.bytes line ≡ record { number = line.number; tokens = map (λ t. t.says) spots }
+  pub spans : All (IsSpan s.bytes) line.tokens.items
   pub order : InOrder 0 line.tokens.items (length s.bytes)
 
 -- the line with this number is the next that is not blank, and this is its first token error

@@ -1,5 +1,5 @@
 -- Where in a text do the tokens of a line lie, and what does a token of the text say?
-use Rattle.std.specs.Prelude.{◌≡◌, ℕ, ◌+◌, ◌<◌, ◌≤◌, List, [], ◌∷◌, map, slice_range, Result, Ok, Err, ⊤}
+use Rattle.std.specs.Prelude.{◌≡◌, ℕ, ◌+◌, ◌<◌, ◌≤◌, List, [], ◌∷◌, length, map, slice_range, Result, Ok, Err, ⊤}
 use Rattle.lhg_lex.specs.PlainToken.{PlainToken, PlainLine, word, number, sign, two_signs}
 use Rattle.lhg_lex.specs.LineTokens.{Spot, Fault}
 use Rattle.lhg_lex.specs.declared.stops.What.{What}
@@ -40,6 +40,11 @@ plain_of text token = plain_kind (slice_range text token.from token.to) token.ki
 -- what a line of the text says
 abbrev pub plain_line : List ℕ → Line → PlainLine
 plain_line text line = record { number = line.number; tokens = map (plain_of text) line.tokens.items }
+
+-- the token has bytes, and they are some of the text
+pub record IsSpan (text : List ℕ) (token : Token) : Type 0 where
+  pub some : token.from < token.to
+  pub within : token.to ≤ length text
 
 -- the tokens have bytes, one behind the other, from one place up to another
 abbrev pub InOrder : ℕ → List Token → ℕ → Type 0

@@ -10,8 +10,11 @@ use crate::tokens::{Line, Token};
 use std::alloc::Global;
 use std::marker::Model;
 
+/// The most bytes that a text may have.
+pub const TEXT_LIMIT: usize = 1_048_576;
+
 /// The lines of a text, from the next that is not read yet.
-#[derive(Drop)]
+#[derive(Debug, Drop)]
 pub struct Lines<'a> {
     bytes: &'a [u8],
     place: usize,
@@ -20,13 +23,14 @@ pub struct Lines<'a> {
 
 impl<'a> Model for Lines<'a> {
     ghost use Rattle.std.specs.Prelude.{◌≤◌, length};
+    ghost use Rattle.lhg_lex.specs.declared.cursor.TheConstants.{TEXT_LIMIT};
     ghost use Rattle.lhg_lex.specs.Reading.{Reading, IsAt};
 
     ghost Value = { Reading };
 
     ghost view = { λ l. record { bytes = l.bytes.now; read = l.read } };
 
-    ghost invariant = { λ l. (length l.bytes.now ≤ 1048576) × IsAt l.bytes.now l.place l.read };
+    ghost invariant = { λ l. (length l.bytes.now ≤ TEXT_LIMIT) × IsAt l.bytes.now l.place l.read };
 }
 
 // A place in a text behind some of its lines, and the last of these where it is not blank.
@@ -39,7 +43,7 @@ struct Found {
 
 // The next line that has a token, from a place behind `read` lines on.
 fn next_line(alloc: Global, bytes: &[u8], from: usize, read: u32) -> Result<Found, ReadStop>
-    requires short { length bytes.now ≤ 1048576 }
+    requires short { length bytes.now ≤ TEXT_LIMIT }
     requires at { IsAt bytes.now from read }
     ensures at { IfOk result (λ f. IsAt bytes.now f.place f.read) }
     ensures line { IfOk result (λ f. IfSome f.line (λ line. IsTokenLine (record { bytes = bytes.now; read = read }) line)) }
@@ -72,9 +76,9 @@ fn next_line(alloc: Global, bytes: &[u8], from: usize, read: u32) -> Result<Foun
 }
 
 impl<'a> Lines<'a> {
-    /// The lines of a text of at most 1,048,576 bytes, from the first on.
+    /// The lines of a text, from the first on.
     pub fn new(bytes: &'a [u8]) -> Lines<'a>
-        requires { length bytes.now ≤ 1048576 }
+        requires { length bytes.now ≤ TEXT_LIMIT }
         ensures { result ≡ record { bytes = bytes.now; read = 0 } }
     {
         Lines {

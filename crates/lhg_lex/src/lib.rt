@@ -14,6 +14,6 @@ mod stops;
 mod tests;
 mod tokens;
 
-pub use cursor::Lines;
+pub use cursor::{Lines, TEXT_LIMIT};
 pub use stops::{ReadStop, What};
 pub use tokens::{Line, Tok, Token};
