@@ -13,9 +13,9 @@ use Rattle.lhg_row.specs.HasValue.{IsEmptiness}
 use Rattle.lhg_row.specs.Trim.{trim}
 use Rattle.lhg_row.specs.TrimLaws.{trim-holds}
 use Rattle.lhg_row.specs.WidthLaws.{trim-wide, trim-tidy}
-use Rattle.lhg_row.specs.Eliminate.{is_empty}
+use Rattle.lhg_row.specs.Eliminate.{row_at, is_empty}
 use Rattle.lhg_row.specs.EmptyLaws.{is_empty-exact}
-use Rattle.lhg_row.specs.Pieces.{row_at, entails, thin_at, thin, made, make}
+use Rattle.lhg_row.specs.Pieces.{entails, thin_at, thin, made, make}
 use Rattle.lhg_row.specs.PieceFacts.{IsEntailment, IsMade}
 use Rattle.lhg_row.specs.EntailLaws.{entails-exact}
 
@@ -24,11 +24,11 @@ and_left_comm : (a b c : Bool) → (a && (b && c)) ≡ (b && (a && c))
 and_left_comm a b c = sym (and_assoc a b c) ∙ ap (λ d. d && c) (and_comm a b) ∙ and_assoc b a c
 
 -- a list holds where one of its rows and the others do
-pub in_piece-remove : (i : ℕ) (rows : PlainPiece) (x : PlainPoint) → i < length rows → in_piece rows x ≡ (holds_at (row_at i rows) x && in_piece (remove rows i) x)
+pub in_piece-remove : (i : ℕ) (rows : PlainPiece) (x : PlainPoint) → i < length rows → in_piece rows x ≡ (holds_at (row_at rows i) x && in_piece (remove rows i) x)
 in_piece-remove i [] x h = absurd (omega arith)
 in_piece-remove zero (r ∷ rows) x h = refl
 in_piece-remove (suc i) (r ∷ rows) x h =
-    ap (λ b. holds_at r x && b) (in_piece-remove i rows x (omega arith)) ∙ and_left_comm (holds_at r x) (holds_at (row_at i rows) x) (in_piece (remove rows i) x)
+    ap (λ b. holds_at r x && b) (in_piece-remove i rows x (omega arith)) ∙ and_left_comm (holds_at r x) (holds_at (row_at rows i) x) (in_piece (remove rows i) x)
 
 -- the other rows have the width of all
 pub remove-wide : (n i : ℕ) (rows : PlainPiece) → i < length rows → AllWide n rows → AllWide n (remove rows i)
@@ -37,7 +37,7 @@ remove-wide n zero (r ∷ rows) h w = w.1
 remove-wide n (suc i) (r ∷ rows) h w = (w.0, remove-wide n i rows (omega arith) w.1)
 
 -- so has the one
-pub row_at-wide : (n i : ℕ) (rows : PlainPiece) → i < length rows → AllWide n rows → length (row_at i rows).coefs ≡ n
+pub row_at-wide : (n i : ℕ) (rows : PlainPiece) → i < length rows → AllWide n rows → length (row_at rows i).coefs ≡ n
 row_at-wide n i [] h w = absurd (omega arith)
 row_at-wide n zero (r ∷ rows) h w = w.0
 row_at-wide n (suc i) (r ∷ rows) h w = row_at-wide n i rows (omega arith) w.1
@@ -79,7 +79,7 @@ first_follows false false f = refl
 -- a row that the others entail is dropped, and else none
 pub thin_at-is : (a : Arithmetic) (n i : ℕ) (rows : PlainPiece) → IsLawful a → i < length rows → AllWide n rows → IsThinned n rows (thin_at a n i rows).value
 thin_at-is a n i rows laws h w =
-    let r = row_at i rows in
+    let r = row_at rows i in
     let rest = remove rows i in
     let x = entails-exact a n rest r laws (remove-wide n i rows h w) (row_at-wide n i rows h w) in
     by_bool (entails a n rest r).value
@@ -96,7 +96,7 @@ thin_at-is a n i rows laws h w =
 -- a list that lost one row at most has more rows than a place before it
 pub thin_at-length : (a : Arithmetic) (n i : ℕ) (rows : PlainPiece) → i < length rows → i ≤ length (thin_at a n i rows).value
 thin_at-length a n i rows h =
-    by_bool (entails a n (remove rows i) (row_at i rows)).value (λ e. rw e (let k = length-remove rows i h in omega arith)) (λ e. rw e (omega arith))
+    by_bool (entails a n (remove rows i) (row_at rows i)).value (λ e. rw e (let k = length-remove rows i h in omega arith)) (λ e. rw e (omega arith))
 
 -- what thin leaves has the points of the list
 pub thin-is : (a : Arithmetic) (n i : ℕ) (rows : PlainPiece) → IsLawful a → i ≤ length rows → AllWide n rows → IsThinned n rows (thin a n i rows).value

@@ -1,26 +1,21 @@
 -- What is the piece of a list of rows, and which pieces are made of pieces?
-use Rattle.std.specs.Prelude.{ℕ, zero, suc, ◌+◌, ◌-◌, Bool, true, false, cond, ◌&&◌, [], ◌∷◌, ◌++◌, map, length, get_or, remove, Option, Some, None}
+use Rattle.std.specs.Prelude.{ℕ, zero, suc, ◌+◌, ◌-◌, Bool, true, false, cond, ◌&&◌, [], ◌∷◌, ◌++◌, map, length, remove, Option, Some, None}
 use Rattle.lhg_num.specs.Arithmetic.{Arithmetic}
 use Rattle.lhg_num.specs.Marked.{Marked, done, and_then, valued}
 use Rattle.lhg_row.specs.Row.{PlainRow, relaxed}
 use Rattle.lhg_row.specs.Piece.{PlainPiece}
-use Rattle.lhg_row.specs.Constant.{never}
 use Rattle.lhg_row.specs.Moves.{negated}
 use Rattle.lhg_row.specs.Trim.{trim}
-use Rattle.lhg_row.specs.Eliminate.{eliminate, is_empty}
+use Rattle.lhg_row.specs.Eliminate.{row_at, eliminate, is_empty}
 
 -- whether the rows over n variables entail the row r: they have no point at which r fails
 abbrev pub entails : Arithmetic → ℕ → PlainPiece → PlainRow → Marked Bool
 entails a n rows r = and_then (trim a (rows ++ negated r ∷ [])) (is_empty a n)
 
 -- ---- make
--- the row at place i; there is one wherever the calculus asks
-abbrev pub row_at : ℕ → PlainPiece → PlainRow
-row_at i rows = get_or rows i (never 0)
-
 -- the list without its row i, where the others entail it
 abbrev pub thin_at : Arithmetic → ℕ → ℕ → PlainPiece → Marked PlainPiece
-thin_at a n i rows = valued (λ b. cond b (remove rows i) rows) (entails a n (remove rows i) (row_at i rows))
+thin_at a n i rows = valued (λ b. cond b (remove rows i) rows) (entails a n (remove rows i) (row_at rows i))
 
 -- the list without those of its first i rows, from the last of them to the first, that the rows still there entail
 abbrev pub thin : Arithmetic → ℕ → ℕ → PlainPiece → Marked PlainPiece
