@@ -58,6 +58,7 @@ pub mod SpeedLemmas
 pub mod System
 pub mod Trim
 pub mod TrimLaws
+pub mod Truths
 pub mod ValueLaws
 pub mod Values
 pub mod Width

@@ -4,12 +4,13 @@ use Rattle.lhg_math.specs.Number.{Number}
 use Rattle.lhg_math.specs.Places.{IsInner}
 use Rattle.lhg_num.specs.Arithmetic.{Arithmetic, IsLawful}
 use Rattle.lhg_row.specs.Row.{PlainRow, PlainPoint}
-use Rattle.lhg_row.specs.Piece.{PlainPiece, InPiece, InClosure}
+use Rattle.lhg_row.specs.Piece.{PlainPiece, InPiece, in_piece, InClosure, in_some}
 use Rattle.lhg_row.specs.Segment.{along}
 use Rattle.lhg_row.specs.Width.{AllWide}
 use Rattle.lhg_row.specs.HasValue.{HasPoint}
 use Rattle.lhg_row.specs.Pieces.{entails, make, meet, closure, includes, project}
 use Rattle.lhg_row.specs.Sample.{sample}
+use Rattle.lhg_row.specs.Truths.{piece_truth, some_truth}
 use Rattle.lhg_row.specs.Lists.{minus, covered, meet_lists}
 use Rattle.lhg_row.specs.PieceFacts.{IsPointOf, AllOver, AllPolys, IsEntailment, IsMade, IsMeet, IsClosure, IsInclusion, IsProjection, IsDifference, IsIntersection, IsCovering}
 
@@ -40,6 +41,11 @@ pub record ListLaws : Type 0 where
   pub cover : (a : Arithmetic) (n : ℕ) (ps qs : List PlainPiece) → IsLawful a → AllPolys n ps → AllOver n qs → IsCovering n ps qs (covered a n ps qs).value
   pub intersection : (a : Arithmetic) (n : ℕ) (ps qs : List PlainPiece) → IsLawful a → AllOver n ps → AllOver n qs → IsIntersection n ps qs (meet_lists a n ps qs).value
   pub intersection_polys : (a : Arithmetic) (n : ℕ) (ps qs : List PlainPiece) → IsLawful a → AllOver n ps → AllOver n qs → AllPolys n (meet_lists a n ps qs).value
+
+-- whether a point is in a piece, and in some piece of a list, is told exactly
+pub record MembershipLaw : Type 0 where
+  pub piece : (a : Arithmetic) (rows : PlainPiece) (x : PlainPoint) → (piece_truth a rows x).value ≡ in_piece rows x
+  pub some : (a : Arithmetic) (ps : List PlainPiece) (x : PlainPoint) → (some_truth a ps x).value ≡ in_some ps x
 
 -- the sample of a piece of fractions lies in it
 abbrev pub SampleLaw : Type 0

@@ -1,5 +1,5 @@
 // What callers may rest on: the laws of the calculus of pieces.
-ghost use Rattle.lhg_row.specs.PieceLaws.{PieceLaws, RelaxedClosureLaw, BetweenLaw, ListLaws, SampleLaw};
+ghost use Rattle.lhg_row.specs.PieceLaws.{PieceLaws, RelaxedClosureLaw, BetweenLaw, ListLaws, MembershipLaw, SampleLaw};
 ghost use Rattle.lhg_row.specs.WorkedPieces.{PieceRows, ListRows, LimitRows, SampleRows};
 
 /// What is made of rows and of one or two pieces has exactly the points that it should.
@@ -16,6 +16,11 @@ pub fn law_closure()
 /// What is made of lists of pieces has exactly the points that it should.
 pub fn law_lists()
     ensures { ListLaws }
+{}
+
+/// Whether a point is in a piece, and in some piece of a list, is told exactly.
+pub fn law_truths()
+    ensures { MembershipLaw }
 {}
 
 /// The sample of a piece of fractions lies in it.

@@ -41,8 +41,16 @@ impl<N: Scalar> System<N> {
         &self.rows
     }
 
-    // A list that trim left.
-    pub(crate) fn of(vars: usize, rows: Vec<Row<N>>) -> System<N>
+    /// The rows by value.
+    pub fn into_rows(self) -> Vec<Row<N>>
+        ensures { result.items ≡ self.lines }
+    {
+        let System { vars: _, rows } = self;
+        rows
+    }
+
+    /// The system of a list that trim may leave.
+    pub fn of(vars: usize, rows: Vec<Row<N>>) -> System<N>
         requires { IsSystem vars rows.items }
         ensures { result ≡ record { width = vars; lines = rows.items } }
     {
