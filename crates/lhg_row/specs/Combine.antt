@@ -17,9 +17,13 @@ entries a f g [] ds = done []
 entries a f g (c ∷ cs) [] = done []
 entries a f g (c ∷ cs) (d ∷ ds) = and_then (entry a f g c d) (λ x. valued (λ xs. x ∷ xs) (entries a f g cs ds))
 
+-- the size of the coefficient of variable k
+abbrev pub coef_size : ℕ → PlainRow → Number
+coef_size k r = size_of (coef_at k r)
+
 -- |s_k| * r + |r_k| * s, strict where either is
 abbrev pub comb : Arithmetic → PlainRow → PlainRow → ℕ → Marked PlainRow
 comb a r s k =
-    let f = size_of (coef_at k s) in
-    let g = size_of (coef_at k r) in
+    let f = coef_size k s in
+    let g = coef_size k r in
     and_then (entries a f g r.coefs s.coefs) (λ cs. valued (λ b. record { coefs = cs; strict = r.strict || s.strict; bound = b }) (entry a f g r.bound s.bound))

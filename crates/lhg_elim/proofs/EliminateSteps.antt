@@ -1,0 +1,71 @@
+-- Steps of an elimination: what is left of the rows, and then its trim.
+use Rattle.std.proofs.Common.{◌≡◌, ℕ, suc, ◌-◌, ◌<◌, Result, Ok, Err, sym, ◌∙◌, subst, arith, refl, IfOk}
+use Rattle.std.proofs.Math.Bool.{or_assoc}
+use Rattle.lhg_num.specs.Arithmetic.{Arithmetic}
+use Rattle.lhg_num.specs.Marked.{Marked, and_then, each, IsRest}
+use Rattle.lhg_num.specs.MarkedLaws.{IsPart, and_then-part, and_then-rest}
+use Rattle.lhg_num.specs.Halting.{IsHaltedByRows}
+use Rattle.lhg_num.specs.declared.refusals.Halt.{Halt}
+use Rattle.lhg_num.specs.declared.refusals.Halt.TheVariants.{Wide, Rows, Pieces, Memory}
+use Rattle.lhg_row.specs.Piece.{PlainPiece}
+use Rattle.lhg_row.specs.Width.{AllWide, HasVariable}
+use Rattle.lhg_row.specs.Trim.{counted, canon, settled, trim}
+use Rattle.lhg_row.specs.Eliminate.{pair_at, without, eliminate}
+use Rattle.lhg_row.specs.NothingLaws.{eliminate-eliminated}
+use Rattle.lhg_row.specs.WidthLaws.{without-wide}
+use Rattle.lhg_row.proofs.Steps.{then-part}
+use Rattle.lhg_elim.proofs.Additive.{marked-is}
+
+-- three steps, one after the other
+then-then : {A B C : Type 0} (m : Marked A) (f : A → Marked B) (g : B → Marked C) → and_then (and_then m f) g ≡ and_then m (λ x. and_then (f x) g)
+then-then m f g =
+    let n = f m.value in
+    let o = g n.value in
+    marked-is (and_then (and_then m f) g) (and_then m (λ x. and_then (f x) g)) refl (or_assoc m.wide n.wide o.wide) (or_assoc m.rows n.rows o.rows) (or_assoc m.pieces n.pieces o.pieces)
+
+-- the list that is trimmed is counted
+counted_part : (a : Arithmetic) (rows : PlainPiece) → IsPart (trim a rows) (counted rows)
+unfolding trim
+counted_part a rows = and_then-part (counted rows) (λ rs. and_then (each (canon a) rs) (settled a))
+
+-- ---- a call that does all that is left, and what it ensures
+-- its result is that of the whole
+pub rest_halts : {T A : Type 0} (r : Result T Halt) (whole rest : Marked A) (f : T → A) → IsRest whole rest → IsHaltedByRows r rest f → IsHaltedByRows r whole f
+rest_halts (Ok x) whole rest f i h = h ∙ i.same
+rest_halts (Err Wide) whole rest f i h = i.wide h
+rest_halts (Err Rows) whole rest f i h = i.rows h
+rest_halts (Err Pieces) whole rest f i h = h
+rest_halts (Err Memory) whole rest f i h = h
+
+-- what holds of the value of the calculus holds of the result
+pub if_ok : {T A : Type 0} (r : Result T Halt) (whole : Marked A) (f : T → A) (P : A → Type 0) → IsHaltedByRows r whole f → P whole.value → IfOk r (λ x. P (f x))
+if_ok (Ok x) whole f P h p = subst P (sym h) p
+if_ok (Err e) whole f P h p = tt
+
+-- ---- the steps
+-- what is left of the rows before it is trimmed
+abbrev pub left : Arithmetic → ℕ → PlainPiece → Marked PlainPiece
+left a k rows = and_then (pair_at a k 0 rows) (without a k rows)
+
+module _ (a : Arithmetic) (k n : ℕ) (rows : PlainPiece) (h : k < n) (w : AllWide n rows) where
+  some : n ≡ suc (n - 1)
+  some = omega arith
+
+  -- the rows have the variable
+  pub has_variable : HasVariable k rows
+  has_variable = record { width = n; there = h; wide = w }
+
+  eliminate-is : eliminate a k rows ≡ and_then (left a k rows) (trim a)
+  eliminate-is = eliminate-eliminated a k (n - 1) rows (omega arith) (subst (λ m. AllWide m rows) some w) ∙ sym (then-then (pair_at a k 0 rows) (without a k rows) (trim a))
+
+  -- it has one variable less
+  pub left-wide : AllWide (n - 1) (left a k rows).value
+  left-wide = without-wide a k (n - 1) rows (omega arith) (subst (λ m. AllWide m rows) some w)
+
+  -- its marks, and that it is counted, are among the marks of the elimination
+  pub left-part : IsPart (eliminate a k rows) (and_then (left a k rows) counted)
+  left-part = subst (λ (e : Marked PlainPiece). IsPart e (and_then (left a k rows) counted)) (sym eliminate-is) (then-part (left a k rows) (trim a) counted (counted_part a (left a k rows).value))
+
+  -- its trim is left
+  pub left-rest : IsRest (eliminate a k rows) (trim a (left a k rows).value)
+  left-rest = subst (λ (e : Marked PlainPiece). IsRest e (trim a (left a k rows).value)) (sym eliminate-is) (and_then-rest (left a k rows) (trim a))

@@ -1,0 +1,40 @@
+// Elimination of one variable from a list of rows.
+ghost use Rattle.std.specs.Prelude.{◌≡◌, ◌<◌, ◌+◌, IfOk};
+ghost use Rattle.lhg_num.specs.Marked.{and_then};
+ghost use Rattle.lhg_num.specs.Halting.{IsHaltedByRows};
+ghost use Rattle.lhg_row.specs.Width.{HasVariable};
+ghost use Rattle.lhg_row.specs.HasValue.{IsElimination};
+ghost use Rattle.lhg_row.specs.Trim.{counted};
+ghost use Rattle.lhg_row.specs.Eliminate as calculus;
+
+use crate::by_pair::push_beside;
+use crate::by_sides::push_sides;
+use crate::levels::levels;
+use crate::pairing::pair;
+use lhg_num::{Halt, Scalar};
+use lhg_row::{Row, System, trim};
+use std::alloc::Global;
+
+/// The list over the variables other than k. It holds at a point exactly where some value of variable k satisfies the system.
+pub fn eliminate<N: Scalar>(alloc: Global, sys: &System<N>, k: usize) -> Result<System<N>, Halt>
+    requires { k < sys.now.width }
+    ensures list { IsHaltedByRows result (calculus.eliminate N.arithmetic k sys.now.lines) (λ s. s.lines) }
+    ensures width { IfOk result (λ s. s.width + 1 ≡ sys.now.width) }
+    ensures points { IfOk result (λ s. IsElimination sys.now.width k sys.now.lines s.lines) }
+{
+    let rows = without(alloc, sys.rows(), k)?;
+    trim(alloc, sys.vars() - 1, rows)
+}
+
+// The rows that do not speak of variable k and the combinations, over the other variables.
+fn without<N: Scalar>(alloc: Global, rows: &[Row<N>], k: usize) -> Result<Vec<Row<N>>, Halt>
+    requires { HasVariable k rows.now }
+    ensures { IsHaltedByRows result (and_then (and_then (calculus.pair_at N.arithmetic k 0 rows.now) (calculus.without N.arithmetic k rows.now)) counted) (λ v. v.items) }
+{
+    let mut out = levels(alloc, rows, k)?;
+    match pair(rows, k)? {
+        Some((i, j)) => push_beside(alloc, &mut out, rows, i, j, k)?,
+        None => push_sides(alloc, &mut out, rows, k)?,
+    }
+    Ok(out)
+}

@@ -1,0 +1,26 @@
+// Whether a list of rows has no point.
+ghost use Rattle.std.specs.Prelude.{IfOk};
+ghost use Rattle.lhg_num.specs.Halting.{IsHaltedByRows};
+ghost use Rattle.lhg_row.specs.HasValue.{IsEmptiness};
+ghost use Rattle.lhg_row.specs.Eliminate as calculus;
+
+use crate::elimination::eliminate;
+use lhg_num::{Halt, Scalar};
+use lhg_row::System;
+use std::alloc::Global;
+
+/// Whether the system has no point. All variables are eliminated, the last first; then no row is left, or 0 < 0.
+pub fn is_empty<N: Scalar>(alloc: Global, sys: &System<N>) -> Result<bool, Halt>
+    ensures calculus { IsHaltedByRows result (calculus.is_empty N.arithmetic sys.now.width sys.now.lines) (λ b. b) }
+    ensures points { IfOk result (λ b. IsEmptiness sys.now.width sys.now.lines b) }
+{
+    let rows = sys.rows();
+    if sys.vars() == 0 {
+        return Ok(!rows.is_empty());
+    }
+    let mut left = eliminate(alloc, sys, sys.vars() - 1)?;
+    while left.vars() > 0 {
+        left = eliminate(alloc, &left, left.vars() - 1)?;
+    }
+    Ok(!left.rows().is_empty())
+}

@@ -1,0 +1,22 @@
+// Elimination of one variable from a list of rows, and whether a list has a point.
+//
+// A row over variable k is, at fixed values of the other variables, an upper or a lower bound on k. Some value of k lies
+// between all lower and all upper bounds exactly where each lower bound fits each upper one, since between two different
+// numbers lies a third. That a lower bound fits an upper one is the combination of the two rows in which k cancels; it is
+// strict where either is. So the rows without k and all these combinations say what some value of k would say. Where two
+// weak rows are an equation, they fix the value of k, and the combinations of the other rows with them say all that is left.
+#![tactic(auto)]
+
+mod by_pair;
+mod by_sides;
+mod combining;
+mod elimination;
+mod emptiness;
+mod levels;
+mod narrowing;
+mod pairing;
+mod sides;
+
+pub use combining::comb;
+pub use elimination::eliminate;
+pub use emptiness::is_empty;
