@@ -29,6 +29,7 @@ pub mod Kinds
 pub mod Laws
 pub mod Lists
 pub mod MakeLaws
+pub mod MarkedTests
 pub mod MeetLaws
 pub mod MeetListsLaws
 pub mod Members

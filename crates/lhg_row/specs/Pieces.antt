@@ -5,6 +5,7 @@ use Rattle.lhg_num.specs.Marked.{Marked, done, and_then, valued}
 use Rattle.lhg_row.specs.Row.{PlainRow, relaxed}
 use Rattle.lhg_row.specs.Piece.{PlainPiece}
 use Rattle.lhg_row.specs.Moves.{negated}
+use Rattle.lhg_row.specs.MarkedTests.{marked_all}
 use Rattle.lhg_row.specs.Trim.{trim}
 use Rattle.lhg_row.specs.Eliminate.{row_at, eliminate, is_empty}
 
@@ -42,8 +43,7 @@ closure a n p = make a n (map relaxed p)
 
 -- whether q entails each row of p
 abbrev pub includes : Arithmetic → ℕ → PlainPiece → PlainPiece → Marked Bool
-includes a n [] q = done true
-includes a n (r ∷ p) q = and_then (entails a n q r) (λ b. valued (λ t. b && t) (includes a n p q))
+includes a n p q = marked_all (entails a n q) p
 
 -- ---- project
 -- the list without the last count of its variables, the last one eliminated first
