@@ -1,0 +1,4 @@
+pub mod Exact
+pub mod ListSteps
+pub mod MakeSteps
+pub mod ProjectSteps

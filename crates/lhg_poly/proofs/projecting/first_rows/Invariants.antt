@@ -1,0 +1,15 @@
+use Rattle.std.proofs.Common.{◌≤◌, ◌-◌}
+use Rattle.lhg_num.specs.Marked.{IsRest}
+use Rattle.lhg_row.specs.Pieces.{eliminate_last}
+use Rattle.lhg_poly.proofs.projecting.first_rows.Given as goal
+
+abbrev pub invariant-later : goal.invariant-later
+invariant-later g l =
+    let a = g.N.Scalar.arithmetic in
+    record {
+      left : IsRest (eliminate_last a l.keep (l.fn.sys.width - l.keep) l.fn.sys.lines) (eliminate_last a l.keep (l.left.width - l.keep) l.left.lines);
+      more : l.keep ≤ l.left.width;
+    }
+
+abbrev pub decreases-later : goal.decreases-later
+decreases-later g l = l.left.width

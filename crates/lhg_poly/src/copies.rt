@@ -1,0 +1,43 @@
+// Copies of rows.
+ghost use Rattle.std.specs.Prelude.{◌++◌};
+ghost use Rattle.lhg_num.specs.Marked.{done};
+ghost use Rattle.lhg_num.specs.Halting.{IsHaltedByMemory};
+
+use lhg_num::{Halt, Scalar};
+use lhg_row::Row;
+use std::alloc::Global;
+
+/// A copy of the row.
+pub fn copy_row<N: Scalar>(alloc: Global, row: &Row<N>) -> Result<Row<N>, Halt>
+    ensures { IsHaltedByMemory result (done row.now) (λ r. r) }
+{
+    Ok(Row {
+        coefs: Vec::from_slice(alloc, &row.coefs)?,
+        kind: row.kind,
+        bound: row.bound,
+    })
+}
+
+/// A copy of the rows.
+pub fn copy_rows<N: Scalar>(alloc: Global, rows: &[Row<N>]) -> Result<Vec<Row<N>>, Halt>
+    ensures { IsHaltedByMemory result (done rows.now) (λ v. v.items) }
+{
+    let mut out = Vec::with_capacity(alloc, rows.len())?;
+    append_rows(alloc, &mut out, rows)?;
+    Ok(out)
+}
+
+/// Puts copies of the rows at the end of the list.
+pub fn append_rows<N: Scalar>(
+    alloc: Global,
+    out: &mut Vec<Row<N>>,
+    rows: &[Row<N>],
+) -> Result<(), Halt>
+    ensures { IsHaltedByMemory result (done (out.old.items ++ rows.now)) (λ _. out.new.items) }
+{
+    for row in rows {
+        let copy = copy_row(alloc, row)?;
+        out.push(copy)?;
+    }
+    Ok(())
+}

@@ -1,0 +1,79 @@
+// The piece of a list of rows: the rows are trimmed, and each that the others entail is dropped, from the last to the first.
+ghost use Rattle.std.specs.Prelude.{◌≡◌, ◌<◌, length, option_map, IfOk, IfSome};
+ghost use Rattle.lhg_num.specs.Halting.{IsHaltedByMemory, IsHaltedByRows};
+ghost use Rattle.lhg_num.specs.Marked.{done};
+ghost use Rattle.std.specs.List.{remove};
+ghost use Rattle.lhg_row.specs.Width.{AllWide};
+ghost use Rattle.lhg_row.specs.PieceFacts.{IsMade};
+ghost use Rattle.lhg_row.specs.Pieces as calculus;
+
+use crate::copies::append_rows;
+use crate::entailing::rows_entail;
+use crate::polys::Poly;
+use lhg_elim::is_empty;
+use lhg_num::{Halt, Scalar};
+use lhg_row::{Row, trim};
+use std::alloc::Global;
+
+/// The piece of the rows, and none where they have no common point.
+pub fn make<N: Scalar>(
+    alloc: Global,
+    vars: usize,
+    rows: Vec<Row<N>>,
+) -> Result<Option<Poly<N>>, Halt>
+    requires { AllWide vars rows.items }
+    ensures calculus { IsHaltedByRows result (calculus.make N.arithmetic vars rows.items) (option_map (λ p. p.lines)) }
+    ensures vars { IfOk result (λ o. IfSome o (λ p. p.width ≡ vars)) }
+    ensures points { IfOk result (λ o. IsMade vars rows.items (option_map (λ p. p.lines) o)) }
+{
+    let system = trim(alloc, vars, rows)?;
+    let empty = is_empty(alloc, &system)?;
+    if empty {
+        return Ok(None);
+    }
+    let kept = thin(alloc, vars, system.into_rows())?;
+    Ok(Some(Poly::of(vars, kept)))
+}
+
+// The rows without those that the rows still there entail, from the last to the first.
+fn thin<N: Scalar>(alloc: Global, vars: usize, mut rows: Vec<Row<N>>) -> Result<Vec<Row<N>>, Halt>
+    requires { AllWide vars rows.items }
+    ensures { IsHaltedByRows result (calculus.thin N.arithmetic vars (length rows.items) rows.items) (λ v. v.items) }
+{
+    let mut i = rows.len();
+    while i > 0 {
+        i -= 1;
+        rows = thin_at(alloc, vars, rows, i)?;
+    }
+    Ok(rows)
+}
+
+// The rows without the one at place i, where the others entail it.
+fn thin_at<N: Scalar>(
+    alloc: Global,
+    vars: usize,
+    mut rows: Vec<Row<N>>,
+    i: usize,
+) -> Result<Vec<Row<N>>, Halt>
+    requires wide { AllWide vars rows.items }
+    requires there { i < length rows.items }
+    ensures { IsHaltedByRows result (calculus.thin_at N.arithmetic vars i rows.items) (λ v. v.items) }
+{
+    let others = copy_others(alloc, &rows, i)?;
+    let entailed = rows_entail(alloc, vars, others, &rows[i])?;
+    if entailed {
+        rows.remove(i);
+    }
+    Ok(rows)
+}
+
+// Copies of the rows but the one at place i.
+fn copy_others<N: Scalar>(alloc: Global, rows: &[Row<N>], i: usize) -> Result<Vec<Row<N>>, Halt>
+    requires { i < length rows.now }
+    ensures { IsHaltedByMemory result (done (remove rows.now i)) (λ v. v.items) }
+{
+    let mut out = Vec::with_capacity(alloc, rows.len())?;
+    append_rows(alloc, &mut out, &rows[..i])?;
+    append_rows(alloc, &mut out, &rows[i + 1..])?;
+    Ok(out)
+}

@@ -1,0 +1,51 @@
+// The common points of two pieces, and the closure of a piece.
+ghost use Rattle.std.specs.Prelude.{◌≡◌, map, option_map, Some, IfOk, IfSome};
+ghost use Rattle.lhg_num.specs.Marked.{done};
+ghost use Rattle.lhg_num.specs.Halting.{IsHaltedByMemory, IsHaltedByRows};
+ghost use Rattle.lhg_row.specs.Row.{relaxed};
+ghost use Rattle.lhg_row.specs.PieceFacts.{IsMeet, IsClosureOf};
+ghost use Rattle.lhg_row.specs.Pieces as calculus;
+
+use crate::copies::{append_rows, copy_rows};
+use crate::making::make;
+use crate::polys::Poly;
+use lhg_num::{Halt, Scalar};
+use lhg_row::{Row, relax};
+use std::alloc::Global;
+
+/// The common points of two pieces, and none where there is no common point.
+pub fn meet<N: Scalar>(alloc: Global, p: &Poly<N>, q: &Poly<N>) -> Result<Option<Poly<N>>, Halt>
+    requires { p.now.width ≡ q.now.width }
+    ensures calculus { IsHaltedByRows result (calculus.meet N.arithmetic p.now.width p.now.lines q.now.lines) (option_map (λ m. m.lines)) }
+    ensures vars { IfOk result (λ o. IfSome o (λ m. m.width ≡ p.now.width)) }
+    ensures points { IfOk result (λ o. IsMeet p.now.width p.now.lines q.now.lines (option_map (λ m. m.lines) o)) }
+{
+    let mut rows = copy_rows(alloc, p.rows())?;
+    append_rows(alloc, &mut rows, q.rows())?;
+    make(alloc, p.vars(), rows)
+}
+
+/// The points at which all relaxed rows hold.
+pub fn closure<N: Scalar>(alloc: Global, p: &Poly<N>) -> Result<Poly<N>, Halt>
+    ensures calculus { IsHaltedByRows result (calculus.closure N.arithmetic p.now.width p.now.lines) (λ c. Some c.lines) }
+    ensures vars { IfOk result (λ c. c.width ≡ p.now.width) }
+    ensures points { IfOk result (λ c. IsClosureOf p.now.width p.now.lines c.lines) }
+{
+    let rows = relaxed_rows(alloc, p.rows())?;
+    match make(alloc, p.vars(), rows)? {
+        Some(piece) => Ok(piece),
+        None => unreachable!(),
+    }
+}
+
+// The rows, each made weak.
+fn relaxed_rows<N: Scalar>(alloc: Global, rows: &[Row<N>]) -> Result<Vec<Row<N>>, Halt>
+    ensures { IsHaltedByMemory result (done (map relaxed rows.now)) (λ v. v.items) }
+{
+    let mut out = Vec::with_capacity(alloc, rows.len())?;
+    for row in rows {
+        let weak = relax(alloc, row)?;
+        out.push(weak)?;
+    }
+    Ok(out)
+}
