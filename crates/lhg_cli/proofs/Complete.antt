@@ -1,7 +1,7 @@
 -- An answer to a text that is taken is its report, and an answer to any other text refuses it.
 use Rattle.std.proofs.Common.{◌≡◌, ℕ, List, Option, Some, None, IfSome, ◌⊎◌, inl, inr, refl, arith, drop, sym, subst}
 use Rattle.std.proofs.lemmas.List.{take-append-drop}
-use Rattle.lhg_read.specs.FirstBad.{IsFirstBad}
+use Rattle.lhg_lex.specs.FirstBad.{IsFirstBad}
 use Rattle.lhg_read.specs.SmallText.{IsSmallText}
 use Rattle.lhg_cli.specs.Answer.{IsAnswer, IsTaken, synth_words}
 use Rattle.lhg_cli.specs.declared.status.Status.{Status}

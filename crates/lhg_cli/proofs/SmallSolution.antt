@@ -14,7 +14,7 @@ use Rattle.lhg_plant.specs.Views.{plain_location}
 use Rattle.lhg_plant.specs.declared.plants.Location.{Location}
 use Rattle.lhg_plant.specs.Region.{PlainRegion}
 use Rattle.lhg_read.specs.SmallPlant.{at_least, at_most, small_plant, IsSmallTextOf}
-use Rattle.lhg_read.specs.Digits.{value_of}
+use Rattle.lhg_lex.specs.Digits.{value_of}
 use Rattle.lhg_read.proofs.DigitRuns.{literal_small}
 use Rattle.lhg_cli.specs.Kept.{kept_pieces, upper_row, AreBounds}
 use Rattle.lhg_cli.specs.SmallRegion.{small_region}

@@ -5,8 +5,8 @@ use Rattle.lhg_plant.specs.Plant.{PlainPlant}
 use Rattle.lhg_plant.specs.Controller.{PlainController}
 use Rattle.lhg_plant.specs.Loss.{PlainLoss}
 use Rattle.lhg_plant.specs.Solution.{IsSolution}
-use Rattle.lhg_read.specs.Lines.{lines_of}
-use Rattle.lhg_read.specs.FirstBad.{IsFirstBad}
+use Rattle.lhg_lex.specs.Lines.{lines_of}
+use Rattle.lhg_lex.specs.FirstBad.{IsFirstBad}
 use Rattle.lhg_read.specs.SmallText.{IsSmallText}
 use Rattle.lhg_read.specs.SmallPlant.{IsSmallTextOf}
 use Rattle.lhg_cli.specs.ReportText.{line, report_text}

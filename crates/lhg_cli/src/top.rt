@@ -2,7 +2,7 @@
 ghost use Rattle.std.specs.Prelude.{◌≡◌, ◌≢◌, ◌≤◌, ◌<◌, ◌↔◌, ℕ, List, Some, map, length, take, string_bytes, IfOk, IfErr, IfSome, OnErr, ◌⊎◌, IsTrue};
 ghost use Rattle.std.specs.Io.KnownBytes.{Appends, IsAtEnd};
 ghost use Rattle.lhg_io.specs.Faults.{Rose};
-ghost use Rattle.lhg_read.specs.Lines.{lines_of};
+ghost use Rattle.lhg_lex.specs.Lines.{lines_of};
 ghost use Rattle.lhg_read.specs.SmallText.{IsSmallText};
 ghost use Rattle.lhg_cli.specs.Answer.{IsAnswer, EndsAt, IsAnswered, IsTaken, synth_words};
 

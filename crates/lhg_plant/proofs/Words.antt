@@ -4,7 +4,8 @@ use Rattle.std.specs.Prelude.{codes}
 use Rattle.std.specs.Str.{bytes_eq}
 use Rattle.std.proofs.lemmas.Slice.Eq.{bytes_eq-Decides}
 use Rattle.lhg_math.specs.Tests.{by_bool}
-use Rattle.lhg_plant.specs.Word.{is_word, IsName, IsVariable}
+use Rattle.lhg_lex.specs.Word.{is_word}
+use Rattle.lhg_plant.specs.Word.{IsName, IsVariable}
 use Rattle.lhg_plant.specs.Example.{WordFacts}
 
 -- a number is at most another or not

@@ -1,8 +1,9 @@
 -- The first line of a small text that cannot stand there.
 use Rattle.std.proofs.Common.{◌≡◌, ◌≢◌, ◌<◌, ◌≤◌, ◌+◌, ◌-◌, ℕ, zero, suc, List, [], ◌∷◌, ◌++◌, length, take, drop, refl, sym, ap, ◌∙◌, ◌⊎◌, inl, inr, arith, Some, None, slice_get, codes, take_all, append-nil}
 use Rattle.lhg_plant.specs.Word.{IsName, IsVariable}
-use Rattle.lhg_read.specs.Digits.{IsLiteral, value_of}
-use Rattle.lhg_read.specs.FirstBad.{IsFirstBad}
+use Rattle.lhg_lex.specs.Digits.{value_of}
+use Rattle.lhg_read.specs.Digits.{IsLiteral}
+use Rattle.lhg_lex.specs.FirstBad.{IsFirstBad}
 use Rattle.lhg_read.specs.SmallText.{IsSmallText, SmallText, AreParts, small_lines, inv_line, safe_line}
 use Rattle.lhg_read.specs.SmallValue.{SaysSmall}
 

@@ -6,8 +6,9 @@ use Rattle.std.specs.Str.Parse.{AllDigits}
 use Rattle.std.proofs.lemmas.Int.Digits.{digits_value-lt, digits_value_more}
 use Rattle.std.proofs.lemmas.Str.{digit_value_digit}
 use Rattle.std.proofs.lemmas.Bool.Decides.{nat_tests}
-use Rattle.lhg_plant.specs.Word.{is_digit}
-use Rattle.lhg_read.specs.Digits.{all_digits, StartsNoDigit, IsLiteral, value_of}
+use Rattle.lhg_lex.specs.Word.{is_digit}
+use Rattle.lhg_lex.specs.Digits.{all_digits, value_of}
+use Rattle.lhg_read.specs.Digits.{StartsNoDigit, IsLiteral}
 
 both : (a b : Bool) → (a && b) ≡ true → (a ≡ true) × (b ≡ true)
 both true b h = (refl, h)

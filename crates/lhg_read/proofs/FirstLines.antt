@@ -6,7 +6,7 @@ use Rattle.std.proofs.lemmas.List.{take_rest}
 use Rattle.std.proofs.lemmas.Bool.Decides.{nat_tests}
 use Rattle.std.proofs.lemmas.List.Sums.{fails_before_first}
 use Rattle.std.proofs.Common.{◌-◌}
-use Rattle.lhg_read.specs.Lines.{lines_of, without_empty_last}
+use Rattle.lhg_lex.specs.Lines.{lines_of, without_empty_last}
 
 some_onto : (b : ℕ) (parts : List (List ℕ)) → (x : List ℕ) × (xs : List (List ℕ)) × (onto_first b parts ≡ x ∷ xs)
 some_onto b [] = (_, _, refl)

@@ -1,6 +1,6 @@
 -- A small text has one value.
 use Rattle.std.proofs.Common.{◌≡◌, ◌++◌, [], ℕ, List, refl, sym, ap, ◌∙◌, subst, length, drop, get_or, codes, drop_at}
-use Rattle.lhg_plant.specs.Word.{is_digit}
+use Rattle.lhg_lex.specs.Word.{is_digit}
 use Rattle.std.specs.List.{prefix_len}
 use Rattle.lhg_read.specs.Digits.{IsLiteral, StartsNoDigit}
 use Rattle.lhg_read.specs.SmallText.{SmallText, small_lines, inv_line, safe_line}

@@ -1,15 +1,7 @@
--- Runs of digits, and the numbers that they stand for.
-use Rattle.std.specs.Prelude.{◌≡◌, ◌<◌, ◌≤◌, ℕ, List, [], ◌∷◌, length, Bool, true, false}
-use Rattle.std.specs.List.{list_all}
-use Rattle.std.specs.Str.Parse.{digits_value}
-use Rattle.lhg_plant.specs.Word.{is_digit}
-
-abbrev pub all_digits : List ℕ → Bool
-all_digits w = list_all is_digit w
-
--- the number that decimal digits stand for
-abbrev pub value_of : List ℕ → ℕ
-value_of w = digits_value 10 w
+-- Which digits are a number of a small text?
+use Rattle.std.specs.Prelude.{◌≡◌, ◌<◌, ◌≤◌, ℕ, List, [], ◌∷◌, length, true, false}
+use Rattle.lhg_lex.specs.Word.{is_digit}
+use Rattle.lhg_lex.specs.Digits.{all_digits}
 
 -- 1 to 18 digits
 pub record IsLiteral (w : List ℕ) : Type 0 where

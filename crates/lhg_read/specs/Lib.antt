@@ -1,7 +1,5 @@
 pub mod Digits
-pub mod FirstBad
 pub mod Laws
-pub mod Lines
 pub mod Refused
 pub mod SmallPlant
 pub mod SmallText

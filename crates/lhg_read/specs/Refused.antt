@@ -1,6 +1,6 @@
 -- When a text is refused as not small.
 use Rattle.std.specs.Prelude.{ℕ, List}
-use Rattle.lhg_read.specs.FirstBad.{IsFirstBad}
+use Rattle.lhg_lex.specs.FirstBad.{IsFirstBad}
 use Rattle.lhg_read.specs.SmallText.{IsSmallText}
 use Rattle.lhg_read.specs.declared.small.SmallStop.{SmallStop}
 use Rattle.lhg_read.specs.declared.small.SmallStop.TheVariants as stop

@@ -4,7 +4,7 @@ use Rattle.lhg_math.specs.Number.{whole, neg, unit}
 use Rattle.lhg_row.specs.Row.{PlainRow}
 use Rattle.lhg_plant.specs.Plant.{PlainPlant}
 use Rattle.lhg_plant.specs.Still.{still_rows}
-use Rattle.lhg_read.specs.Digits.{value_of}
+use Rattle.lhg_lex.specs.Digits.{value_of}
 use Rattle.lhg_read.specs.SmallText.{SmallText, IsSmall}
 
 -- the one variable is at most n

@@ -1,6 +1,6 @@
 -- What a small text says.
 use Rattle.std.specs.Prelude.{◌≡◌, ℕ, List}
-use Rattle.lhg_read.specs.Digits.{value_of}
+use Rattle.lhg_lex.specs.Digits.{value_of}
 use Rattle.lhg_read.specs.SmallText.{SmallText, IsSmall}
 
 -- the lines are a small text with these names and numbers

@@ -1,8 +1,9 @@
 // Reads numbers of at most 18 digits.
 ghost use Rattle.std.specs.Prelude.{◌≡◌, ◌≢◌, ◌++◌, List, ℕ, IfSome, IfNone};
 ghost use Rattle.std.specs.List.{prefix_len};
-ghost use Rattle.lhg_plant.specs.Word.{is_digit};
-ghost use Rattle.lhg_read.specs.Digits.{IsLiteral, value_of, all_digits, StartsNoDigit};
+ghost use Rattle.lhg_lex.specs.Word.{is_digit};
+ghost use Rattle.lhg_lex.specs.Digits.{value_of, all_digits};
+ghost use Rattle.lhg_read.specs.Digits.{IsLiteral, StartsNoDigit};
 
 use crate::words::is_digit;
 

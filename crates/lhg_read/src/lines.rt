@@ -1,6 +1,6 @@
 // Cuts a text into its lines.
 ghost use Rattle.std.specs.Prelude.{◌≡◌, ◌<◌, ◌∷◌, ◌==◌, IfOk, length, map, position};
-ghost use Rattle.lhg_read.specs.Lines.{lines_of};
+ghost use Rattle.lhg_lex.specs.Lines.{lines_of};
 
 use std::alloc::{AllocError, Global};
 

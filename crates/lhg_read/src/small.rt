@@ -1,11 +1,12 @@
 // Reads small texts: one still location with one variable.
 ghost use Rattle.std.specs.Prelude.{◌≡◌, ◌≢◌, ◌++◌, ◌↔◌, List, ℕ, Some, None, IfOk, IfErr, IfSome, IfNone, IsTrue, map, slice_get, codes};
 ghost use Rattle.lhg_plant.specs.Word.{IsName, IsVariable};
-ghost use Rattle.lhg_read.specs.Digits.{IsLiteral, value_of};
-ghost use Rattle.lhg_read.specs.FirstBad.{IsFirstBad};
+ghost use Rattle.lhg_lex.specs.Digits.{value_of};
+ghost use Rattle.lhg_read.specs.Digits.{IsLiteral};
+ghost use Rattle.lhg_lex.specs.FirstBad.{IsFirstBad};
 ghost use Rattle.lhg_read.specs.SmallText.{IsSmallText, inv_line, safe_line};
 ghost use Rattle.lhg_plant.specs.Views.{plain_plant};
-ghost use Rattle.lhg_read.specs.Lines.{lines_of};
+ghost use Rattle.lhg_lex.specs.Lines.{lines_of};
 ghost use Rattle.lhg_read.specs.SmallPlant.{IsSmallTextOf};
 ghost use Rattle.lhg_read.specs.Refused.{HasSmallCause};
 ghost use Rattle.lhg_read.specs.SmallValue.{SaysSmall};

@@ -1,7 +1,8 @@
 // Tests of words, and what stands behind a prefix.
 ghost use Rattle.std.specs.Prelude.{◌≡◌, ◌≢◌, ◌++◌, ◌↔◌, List, ℕ, IfSome, IfNone, IsTrue};
 ghost use Rattle.std.specs.List.{list_all};
-ghost use Rattle.lhg_plant.specs.Word.{IsName, IsVariable, is_word, begins_word, continues_word, is_digit};
+ghost use Rattle.lhg_lex.specs.Word.{is_word, begins_word, continues_word, is_digit};
+ghost use Rattle.lhg_plant.specs.Word.{IsName, IsVariable};
 
 pub fn is_digit(b: u8) -> bool
     ensures { result ≡ is_digit b }

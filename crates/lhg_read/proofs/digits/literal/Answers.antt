@@ -1,8 +1,8 @@
 use Rattle.std.proofs.Common.{arith, ◌∙◌, sym, take, ap}
 use Rattle.std.proofs.lemmas.List.{take-append-drop, take_rest}
 use Rattle.std.proofs.lemmas.List.Sums.{prefix_len-le-length}
-use Rattle.lhg_plant.specs.Word.{is_digit}
-use Rattle.lhg_read.specs.Digits.{value_of}
+use Rattle.lhg_lex.specs.Word.{is_digit}
+use Rattle.lhg_lex.specs.Digits.{value_of}
 use Rattle.lhg_read.proofs.DigitRuns.{front_literal, ends_at}
 use Rattle.lhg_read.proofs.digits.literal.Goals as goal
 

@@ -1,5 +1,5 @@
 use Rattle.std.proofs.Common.{◌≡◌, take}
-use Rattle.lhg_read.specs.Digits.{value_of}
+use Rattle.lhg_lex.specs.Digits.{value_of}
 use Rattle.lhg_read.proofs.digits.number.Given as goal
 
 abbrev pub invariant-loop-b : goal.invariant-loop-b

@@ -1,5 +1,5 @@
 use Rattle.std.proofs.Common.{◌≡◌, ◌++◌, length, map}
-use Rattle.lhg_read.specs.Lines.{lines_of}
+use Rattle.lhg_lex.specs.Lines.{lines_of}
 use Rattle.lhg_read.proofs.lines.split_lines.Given as goal
 
 abbrev pub invariant-loop-rest : goal.invariant-loop-rest

@@ -1,6 +1,6 @@
 use Rattle.std.proofs.Common.{rules}
-use Rattle.lhg_read.specs.FirstBad.{IsFirstBad}
-use Rattle.lhg_read.specs.Lines.{lines_of}
+use Rattle.lhg_lex.specs.FirstBad.{IsFirstBad}
+use Rattle.lhg_lex.specs.Lines.{lines_of}
 use Rattle.lhg_read.specs.SmallText.{IsSmallText}
 use Rattle.lhg_read.proofs.NoText.{no_text}
 use Rattle.lhg_read.proofs.small.read_small.Goals as goal
