@@ -1,5 +1,15 @@
+pub mod AxisRows
 pub mod BadLines
+pub mod Cuts
 pub mod DigitRuns
 pub mod FirstLines
+pub mod InsideLemmas
+pub mod ListSteps
 pub mod NoText
 pub mod OneValue
+pub mod PairRows
+pub mod PairSteps
+pub mod RefusalSteps
+pub mod SumSteps
+pub mod ChainSteps
+pub mod Collecting

@@ -1,6 +1,17 @@
+pub mod Collect
+pub mod Cut
 pub mod Digits
+pub mod Inside
+pub mod Keep
 pub mod Laws
+pub mod Options
+pub mod Pair
+pub mod Refusals
 pub mod Refused
+pub mod Rows
+pub mod Signs
 pub mod SmallPlant
 pub mod SmallText
 pub mod SmallValue
+pub mod Sum
+pub mod Term
