@@ -52,6 +52,7 @@ still_more n v h = ap (still_from n v) (left n v h) ∙ ap (λ k. axis_row n v u
   where
     left : (n v : ℕ) → v < n → n - v ≡ suc (n - (v + 1))
     left n v h = omega arith
+
     next : (v : ℕ) → suc v ≡ v + 1
     next v = omega arith
 
@@ -60,6 +61,7 @@ keep_more n v h = ap (keep_from n v) (left n v h) ∙ ap (λ k. change_row n v (
   where
     left : (n v : ℕ) → v < n → n - v ≡ suc (n - (v + 1))
     left n v h = omega arith
+
     next : (v : ℕ) → suc v ≡ v + 1
     next v = omega arith
 

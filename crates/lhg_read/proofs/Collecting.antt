@@ -67,15 +67,15 @@ module _ (n : ℕ) (c : Collected) (size : length c.coefs ≡ n) (q : Number) (j
   seen_put ts i =
       by_bool (j == i)
       (λ t.
-        let e : j ≡ i = eqb-true j i t in
-        let k : count_by (is_at i) (Times q j ∷ ts) ≡ 1 + count_by (is_at i) ts = count-cons (is_at i) (Times q j) ts ∙ ap (λ b. cond b 1 0 + count_by (is_at i) ts) t in
-        let a : seen c i ≡ 0 = ap (λ b. cond b 0 1) (ap (λ m. is_nought (get_or c.coefs m nought)) (sym e) ∙ fresh) in
-        let b : seen put i ≡ 1 = ap (λ b. cond b 0 1) (ap is_nought (at_own i e) ∙ some) in
-        omega (arith, k, a, b))
+      let e : j ≡ i = eqb-true j i t in
+      let k : count_by (is_at i) (Times q j ∷ ts) ≡ 1 + count_by (is_at i) ts = count-cons (is_at i) (Times q j) ts ∙ ap (λ b. cond b 1 0 + count_by (is_at i) ts) t in
+      let a : seen c i ≡ 0 = ap (λ b. cond b 0 1) (ap (λ m. is_nought (get_or c.coefs m nought)) (sym e) ∙ fresh) in
+      let b : seen put i ≡ 1 = ap (λ b. cond b 0 1) (ap is_nought (at_own i e) ∙ some) in
+      omega (arith, k, a, b))
       (λ t.
-        let k : count_by (is_at i) (Times q j ∷ ts) ≡ 0 + count_by (is_at i) ts = count-cons (is_at i) (Times q j) ts ∙ ap (λ b. cond b 1 0 + count_by (is_at i) ts) t in
-        let a : seen put i ≡ seen c i = ap (λ x. cond (is_nought x) 0 1) (at_other i (eqb-false j i t)) in
-        omega (arith, k, a))
+      let k : count_by (is_at i) (Times q j ∷ ts) ≡ 0 + count_by (is_at i) ts = count-cons (is_at i) (Times q j) ts ∙ ap (λ b. cond b 1 0 + count_by (is_at i) ts) t in
+      let a : seen put i ≡ seen c i = ap (λ x. cond (is_nought x) 0 1) (at_other i (eqb-false j i t)) in
+      omega (arith, k, a))
 
   alone_put : (ts : List Term) → count_by is_alone (Times q j ∷ ts) ≡ count_by is_alone ts
   alone_put ts = let e = count-cons is_alone (Times q j) ts in omega (arith, e)
@@ -92,10 +92,10 @@ module _ (n : ℕ) (c : Collected) (size : length c.coefs ≡ n) (q : Number) (j
     factor = λ i h.
         by_bool (j == i)
         (λ t.
-          let e : j ≡ i = eqb-true j i t in
-          let own : get_or d.coefs i nought ≡ q = m.factor i h ∙ ap (λ x. cond (is_nought x) (factor_in (is_at i) ts) x) (at_own i e) ∙ ap (λ b. cond b (factor_in (is_at i) ts) q) some in
-          let a : is_nought (get_or c.coefs i nought) ≡ true = ap (λ m. is_nought (get_or c.coefs m nought)) (sym e) ∙ fresh in
-          own ∙ rw (a, t) refl)
+        let e : j ≡ i = eqb-true j i t in
+        let own : get_or d.coefs i nought ≡ q = m.factor i h ∙ ap (λ x. cond (is_nought x) (factor_in (is_at i) ts) x) (at_own i e) ∙ ap (λ b. cond b (factor_in (is_at i) ts) q) some in
+        let a : is_nought (get_or c.coefs i nought) ≡ true = ap (λ m. is_nought (get_or c.coefs m nought)) (sym e) ∙ fresh in
+        own ∙ rw (a, t) refl)
         (λ t. m.factor i h ∙ ap (λ x. cond (is_nought x) (factor_in (is_at i) ts) x) (at_other i (eqb-false j i t)) ∙ rw t refl);
     number = m.number;
   }
@@ -171,12 +171,12 @@ collects n c [] size h = none_answers n c
 collects n c (Times q j ∷ ts) size h =
     by_bool (is_nought (get_or c.coefs j nought))
     (λ e.
-      let ih = collects n (record c { coefs = set c.coefs j q }) ts (length-set c.coefs j q ∙ size) h.1 in
-      rw e (times_put n c size q j h.0.0 h.0.1 e ts (with_terms (record c { coefs = set c.coefs j q }) ts) ih))
+    let ih = collects n (record c { coefs = set c.coefs j q }) ts (length-set c.coefs j q ∙ size) h.1 in
+    rw e (times_put n c size q j h.0.0 h.0.1 e ts (with_terms (record c { coefs = set c.coefs j q }) ts) ih))
     (λ e. rw e (twice n c q j ts h.0.0 e))
 collects n c (Alone q ∷ ts) size h =
     by_bool (is_some c.number)
     (λ e. rw e (second n c q ts e))
     (λ e.
-      let ih = collects n (record c { number = Some q }) ts size h.1 in
-      rw e (alone_put_in n c q e ts (with_terms (record c { number = Some q }) ts) ih))
+    let ih = collects n (record c { number = Some q }) ts size h.1 in
+    rw e (alone_put_in n c q e ts (with_terms (record c { number = Some q }) ts) ih))

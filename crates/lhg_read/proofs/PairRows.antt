@@ -129,13 +129,13 @@ module _ (n : ℕ) (ts : List Term) where
     variable_is sound =
         by_bool (list_any (λ term. not (is_alone term)) ts)
         (λ e.
-          let v = some_variable n ts sound e in
-          let here : not (is_nought (get_or d.coefs v.0 nought)) ≡ true = ap (λ x. not (is_nought x)) (factor_is v.0 v.1) ∙ ap not v.2 in
-          list_any_at (λ q. not (is_nought q)) d.coefs v.0 nought (omega (arith, v.1, long_is)) here ∙ sym e)
+        let v = some_variable n ts sound e in
+        let here : not (is_nought (get_or d.coefs v.0 nought)) ≡ true = ap (λ x. not (is_nought x)) (factor_is v.0 v.1) ∙ ap not v.2 in
+        list_any_at (λ q. not (is_nought q)) d.coefs v.0 nought (omega (arith, v.1, long_is)) here ∙ sym e)
         (λ e.
-          list_any_none (λ q. not (is_nought q)) d.coefs
-          (λ k x lt. all_at d.coefs k x lt (factor_is k (omega (arith, lt, long_is)) ∙ no_variable k ts e))
-          ∙ sym e)
+        list_any_none (λ q. not (is_nought q)) d.coefs
+        (λ k x lt. all_at d.coefs k x lt (factor_is k (omega (arith, lt, long_is)) ∙ no_variable k ts e))
+        ∙ sym e)
       where
         all_at : (xs : List Number) (k : ℕ) (x : Number) → k < length xs → get_or xs k nought ≡ nought → not (is_nought (get_or xs k x)) ≡ false
         all_at [] k x lt e = absurd (omega arith)

@@ -105,7 +105,7 @@ module _ (form : Form) (vars : List (List ℕ)) (text : List ℕ) (tokens : List
   pub refused : term_put turned c minus (term_of form vars here) ≡ None → now ≡ None
   refused h = elim (some_or_all (length tokens) (at + n)) [
     | inl past ↦ finished past ∙ h
-    | inr lt ↦ 
+    | inr lt ↦
         ap (λ k. with_turned turned c (terms_from form vars minus k)) (inner_part is_plus_or_minus signs_blind text tokens at n within is a_token lt)
         ∙ inner_term form vars turned c minus here (plain_of text (get_or tokens (at + n) a_token)) (cut is_plus_or_minus (map (plain_of text) (drop (at + n + 1) tokens)))
         ∙ ap (option_and_then (λ d. with_turned turned d (terms_from form vars (is_minus (plain_of text (get_or tokens (at + n) a_token))) (cut is_plus_or_minus (map (plain_of text) (drop (at + n + 1) tokens)))))) h

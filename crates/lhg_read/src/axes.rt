@@ -61,7 +61,12 @@ fn change_row(alloc: Global, n: usize, v: usize, a: Frac, b: Frac) -> Result<Row
     })
 }
 
-fn push_still(alloc: Global, n: usize, v: usize, rows: &mut Vec<Row<Frac>>) -> Result<(), AllocError>
+fn push_still(
+    alloc: Global,
+    n: usize,
+    v: usize,
+    rows: &mut Vec<Row<Frac>>,
+) -> Result<(), AllocError>
     requires { v < n }
     ensures { IfOk result (λ _. rows.new.items ≡ rows.old.items ++ (axis_row n v unit ∷ axis_row n v (neg unit) ∷ [])) }
 {
@@ -92,7 +97,11 @@ pub(crate) fn still_rows(alloc: Global, n: usize) -> Result<Vec<Row<Frac>>, Allo
 }
 
 /// Appends the rows that leave each of n variables as it is.
-pub(crate) fn push_keep_rows(alloc: Global, n: usize, rows: &mut Vec<Row<Frac>>) -> Result<(), AllocError>
+pub(crate) fn push_keep_rows(
+    alloc: Global,
+    n: usize,
+    rows: &mut Vec<Row<Frac>>,
+) -> Result<(), AllocError>
     requires { n + n < 2 ^ 63 }
     ensures { IfOk result (λ _. rows.new.items ≡ rows.old.items ++ keep_rows n) }
 {

@@ -41,7 +41,16 @@ fn push_chain(
     let middle = first + 1;
     let second = middle + before_operator(&tokens[middle..]);
     let op = &tokens[first];
-    push_pair(alloc, lines, vars, form, &tokens[..first], op, &tokens[middle..second], rows)?;
+    push_pair(
+        alloc,
+        lines,
+        vars,
+        form,
+        &tokens[..first],
+        op,
+        &tokens[middle..second],
+        rows,
+    )?;
     if second >= tokens.len() {
         return Ok(());
     }
@@ -50,7 +59,16 @@ fn push_chain(
         return Err(Refusal::NotHere);
     }
     let next = &tokens[second];
-    push_pair(alloc, lines, vars, form, &tokens[middle..second], next, &tokens[last..], rows)
+    push_pair(
+        alloc,
+        lines,
+        vars,
+        form,
+        &tokens[middle..second],
+        next,
+        &tokens[last..],
+        rows,
+    )
 }
 
 // Whether the tokens are `keep`, in a switch.

@@ -2,6 +2,7 @@
 #![tactic(auto)]
 
 mod axes;
+mod constraints;
 mod digits;
 mod forms;
 pub mod laws;
@@ -10,7 +11,6 @@ mod operators;
 mod pairs;
 mod parts;
 mod refusal;
-mod constraints;
 mod rows;
 mod signs;
 mod small;

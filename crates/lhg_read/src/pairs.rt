@@ -69,7 +69,12 @@ fn opposite_row(alloc: Global, row: &Row<Frac>) -> Result<Row<Frac>, AllocError>
 }
 
 // Appends the rows of a pair, given all its terms on the left.
-fn push_by(alloc: Global, op: Operator, sum: &Sum, rows: &mut Vec<Row<Frac>>) -> Result<(), AllocError>
+fn push_by(
+    alloc: Global,
+    op: Operator,
+    sum: &Sum,
+    rows: &mut Vec<Row<Frac>>,
+) -> Result<(), AllocError>
     ensures { IfOk result (λ _. rows.new.items ≡ rows.old.items ++ rows_by op (row_from (collected sum.now))) }
 {
     let kind = match op {

@@ -21,7 +21,10 @@ pub(crate) fn before_operator(tokens: &[Token]) -> usize
     ensures place { result ≡ position_or_len (λ token. plain.is_operator (plain_of [] token)) tokens.now }
     ensures within { result ≤ length tokens.now }
 {
-    tokens.iter().take_while(|token| !is_operator(token)).count()
+    tokens
+        .iter()
+        .take_while(|token| !is_operator(token))
+        .count()
 }
 
 /// How many tokens stand before the first `+` or `-`.
@@ -29,5 +32,8 @@ pub(crate) fn before_sign(tokens: &[Token]) -> usize
     ensures place { result ≡ position_or_len (λ token. plain.is_plus_or_minus (plain_of [] token)) tokens.now }
     ensures within { result ≤ length tokens.now }
 {
-    tokens.iter().take_while(|token| !is_plus_or_minus(token)).count()
+    tokens
+        .iter()
+        .take_while(|token| !is_plus_or_minus(token))
+        .count()
 }

@@ -8,7 +8,7 @@ use Rattle.lhg_read.proofs.sums.put_terms.Goals as goal
 
 pub loop-term-init : goal.loop-term-init
 loop-term-init c = elim c.if-minus.branch [
-  | then-minus w ↦ 
+  | then-minus w ↦
       let e = sym c.begins_with_minus-minus.ensures ∙ w.if-minus.true in
       let some = some_minus c.args.tokens.now e in
       record {
@@ -16,7 +16,7 @@ loop-term-init c = elim c.if-minus.branch [
         wide = c.requires.wide;
         left = rw (w.if-minus.true, w.at-is) (starts_minus c.args.form c.args.vars.now c.args.lines.now.bytes c.args.tokens.now c.args.turned _ e);
       }
-  | else-minus w ↦ 
+  | else-minus w ↦
       let e = sym c.begins_with_minus-minus.ensures ∙ w.if-minus.false in
       record {
         within = omega (arith, w.at-is);

@@ -12,7 +12,7 @@ invariant-loop-term l = record {
   within : l.at ≤ length l.tokens;
   wide : length l.sum.coefs.items ≡ width l.form l.vars;
   left : with_turned l.turned (collected l.initial.sum) (sum_of l.form l.vars (map (plain_of l.lines.bytes) l.tokens))
-  ≡ with_turned l.turned (collected l.sum) (terms_from l.form l.vars l.minus (cut is_plus_or_minus (map (plain_of l.lines.bytes) (drop l.at l.tokens))));
+      ≡ with_turned l.turned (collected l.sum) (terms_from l.form l.vars l.minus (cut is_plus_or_minus (map (plain_of l.lines.bytes) (drop l.at l.tokens))));
 }
 
 abbrev pub decreases-loop-term : goal.decreases-loop-term
