@@ -34,6 +34,7 @@ both-both l m n =
 both-part : {A : Type 0} (m n : Marked (List A)) → IsPart (both m n) n
 both-part m n = record { wide = or_right m.wide n.wide; rows = or_right m.rows n.rows; pieces = or_right m.pieces n.pieces }
 
+-- a mark that is not set adds nothing
 or_none : (a b : Bool) → (a || b) ≡ ((a || false) || b)
 or_none true b = refl
 or_none false b = refl
@@ -106,6 +107,7 @@ module _ {A : Type 0} (h : A → PlainRow) where
 
 module _ {A : Type 0} (h : A → PlainRow) (made : PlainPiece → Marked (List A)) (additive : IsAdditive made) (rows : PlainPiece) (i : ℕ) (row : PlainRow) (is : row ≡ get_or rows i row) (in_rows : i < length rows)
     (old : PlainPiece) (whole : Marked (List A)) (out : PlainPiece) (b : IsPushed h old whole out (made (drop i rows))) where
+  -- the row at hand is the first that is left
   here : IsPushed h old whole out (both (made (row ∷ [])) (made (drop (i + 1) rows)))
   here = subst (IsPushed h old whole out) (ap made (drop_cons rows i row is in_rows) ∙ additive.joined row (drop (i + 1) rows)) b
 

@@ -48,6 +48,7 @@ abbrev pub left : Arithmetic → ℕ → PlainPiece → Marked PlainPiece
 left a k rows = and_then (pair_at a k 0 rows) (without a k rows)
 
 module _ (a : Arithmetic) (k n : ℕ) (rows : PlainPiece) (h : k < n) (w : AllWide n rows) where
+  -- there is a variable
   some : n ≡ suc (n - 1)
   some = omega arith
 
@@ -55,6 +56,7 @@ module _ (a : Arithmetic) (k n : ℕ) (rows : PlainPiece) (h : k < n) (w : AllWi
   pub has_variable : HasVariable k rows
   has_variable = record { width = n; there = h; wide = w }
 
+  -- an elimination is what is left of the rows, and then its trim
   eliminate-is : eliminate a k rows ≡ and_then (left a k rows) (trim a)
   eliminate-is = eliminate-eliminated a k (n - 1) rows (omega arith) (subst (λ m. AllWide m rows) some w) ∙ sym (then-then (pair_at a k 0 rows) (without a k rows) (trim a))
 

@@ -29,6 +29,7 @@ empty-nothing a n lines rows b e w t is h =
 
 -- ---- over some
 module _ (a : Arithmetic) (n k : ℕ) (lines : PlainPiece) (some : n ≡ suc k) (whole : Marked Bool) (r : IsRest whole (is_empty a n lines)) where
+  -- the elimination of the last variable is the first step that is left
   here : IsRest whole (and_then (eliminate a k lines) (is_empty a k))
   here = subst (λ m. IsRest whole (is_empty a m lines)) some r
 

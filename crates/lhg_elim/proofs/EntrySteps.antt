@@ -10,6 +10,7 @@ use Rattle.lhg_row.proofs.Steps.{drop-map_cons}
 
 module _ {N : Type 0} (m : N → Number) (a : Arithmetic) (f g : Number) (cs ds : List N) (i : ℕ) (c d : N) (c_is : c ≡ get_or cs i c) (d_is : d ≡ get_or ds i d) (in_cs : i < length cs) (in_ds : i < length ds)
     (whole : Marked (List Number)) (out : List N) (b : IsBuilt whole (map m out) (entries a f g (drop i (map m cs)) (drop i (map m ds)))) where
+  -- the entries at hand are the first that are left
   here : IsBuilt whole (map m out) (entries a f g (m c ∷ drop (i + 1) (map m cs)) (m d ∷ drop (i + 1) (map m ds)))
   here =
       subst (λ ys. IsBuilt whole (map m out) (entries a f g (m c ∷ drop (i + 1) (map m cs)) ys)) (drop-map_cons m ds i d d_is in_ds)

@@ -16,6 +16,8 @@ mod levels;
 mod narrowing;
 mod pairing;
 mod sides;
+#[cfg(test)]
+mod tests;
 
 pub use combining::comb;
 pub use elimination::eliminate;

@@ -23,6 +23,7 @@ named-step m f out more y j e h p =
 
 -- ---- the coefficient for a place
 module _ (j i : ℕ) (ps : List ℕ) (cs : List Number) (in_ps : i < length ps) (in_cs : i < length cs) where
+  -- the place at hand is asked first
   here : coef_for j (drop i ps) (drop i cs) ≡ cond (nat_eq j (get_or ps i 0)) (get_or cs i nought) (coef_for j (drop (i + 1) ps) (drop (i + 1) cs))
   here = ap (λ qs. coef_for j qs (drop i cs)) (drop_more ps i 0 in_ps) ∙ ap (λ ds. coef_for j (get_or ps i 0 ∷ drop (i + 1) ps) ds) (drop_more cs i nought in_cs)
 

@@ -35,9 +35,11 @@ pub record IsGathering (a : Arithmetic) (all kept rest : PlainPiece) : Type 0 wh
   pub rest_wide : AllWide width rest
 
 module _ (a : Arithmetic) (all kept rows : PlainPiece) (r : PlainRow) (rest : PlainPiece) (is : rows ≡ r ∷ rest) (h : IsGathering a all kept rows) where
+  -- the row at hand is the first that is left
   both : IsRest (gathered a [] (kept_of all)) (gathered a kept (kept_of (r ∷ []) ++ kept_of rest))
   both = subst (λ rs. IsRest (gathered a [] (kept_of all)) (gathered a kept rs)) (ap kept_of is ∙ filter-cons (λ s. not (is_true s)) r rest) h.left
 
+  -- it has the width of all
   wides : AllWide h.width (r ∷ rest)
   wides = subst (AllWide h.width) is h.rest_wide
 

@@ -40,6 +40,7 @@ later-part a r s ss part e q =
     let p : IsPart (f false) part = record { wide = q.wide; rows = q.rows; pieces = q.pieces } in
     rest_part (placed a r (s ∷ ss)) (f (same_direction a r s).value) part (and_then-rest (same_direction a r s) f) (subst (λ b. IsPart (f b) part) (sym e) p)
 
+-- the row at hand has the direction
 along-here : (a : Arithmetic) (r s : PlainRow) (ss : PlainPiece) → (same_direction a r s).value ≡ true → IsAlong a r (s ∷ ss) 0
 along-here a r s ss e = record {
   in_list = omega arith;
@@ -47,6 +48,7 @@ along-here a r s ss e = record {
   part = λ t h. subst (λ u. IsPart (placed a r (s ∷ ss)) (bound_order a r u)) (sym h) (here-part a r s ss e);
 }
 
+-- it has not, and a later one is the first that has
 along-later : (a : Arithmetic) (r s : PlainRow) (ss : PlainPiece) (i : ℕ) → (same_direction a r s).value ≡ false → IsAlong a r ss i → IsAlong a r (s ∷ ss) (suc i)
 along-later a r s ss i e h = record {
   in_list = let k = h.in_list in omega arith;
@@ -54,6 +56,7 @@ along-later a r s ss i e h = record {
   part = λ t k. later-part a r s ss (bound_order a r t) e (h.part t k);
 }
 
+-- what the search answers
 sought : (a : Arithmetic) (r : PlainRow) (j : ℕ) (ss : PlainPiece) → IsSought a r j ss (place_along a r j ss).value
 sought a r j [] = refl
 sought a r j (s ∷ ss) =

@@ -10,6 +10,7 @@ use Rattle.lhg_row.proofs.Steps.{drop-map_cons, rest_step, step_part}
 
 -- ---- the leading coefficient
 module _ {N : Type 0} (m : N → Number) (cs : List N) (i : ℕ) (c : N) (c_is : c ≡ get_or cs i c) (in_cs : i < length cs) where
+  -- the coefficient at hand leads unless it is 0
   lead-here : lead (drop i (map m cs)) ≡ cond (is_nought (m c)) (lead (drop (i + 1) (map m cs))) (m c)
   lead-here = ap lead (drop-map_cons m cs i c c_is in_cs)
 
@@ -24,17 +25,21 @@ module _ {N : Type 0} (m : N → Number) (cs : List N) (i : ℕ) (c : N) (c_is :
 -- ---- scaled entries
 module _ {N : Type 0} (m : N → Number) (a : Arithmetic) (h : Number → Number) (f g : Number) (cs ds : List N) (i : ℕ) (c d : N) (c_is : c ≡ get_or cs i c) (d_is : d ≡ get_or ds i d) (in_cs : i < length cs) (in_ds : i < length ds)
     (whole : Marked Bool) (r : IsRest whole (agree a h f g (drop i (map m cs)) (drop i (map m ds)))) where
+  -- the entries that are left after those at hand
   abbrev later : Marked Bool
   later = agree a h f g (drop (i + 1) (map m cs)) (drop (i + 1) (map m ds))
 
+  -- the entries at hand are the first that are left
   agree-here : IsRest whole (agree a h f g (m c ∷ drop (i + 1) (map m cs)) (m d ∷ drop (i + 1) (map m ds)))
   agree-here =
       subst (λ ys. IsRest whole (agree a h f g (m c ∷ drop (i + 1) (map m cs)) ys)) (drop-map_cons m ds i d d_is in_ds)
       (subst (λ ys. IsRest whole (agree a h f g ys (drop i (map m ds)))) (drop-map_cons m cs i c c_is in_cs) r)
 
+  -- the marks of their comparison are among those of the whole
   pub agree-part : IsPart whole (agree_at a h f g (m c) (m d))
   agree-part = step_part whole (agree_at a h f g (m c) (m d)) (λ b. valued (λ t. b && t) later) agree-here
 
+  -- after their comparison the others are left
   agree-next : (b : Bool) → b ≡ (agree_at a h f g (m c) (m d)).value → IsRest whole (valued (λ t. b && t) later)
   agree-next b e = rest_step whole (agree_at a h f g (m c) (m d)) (λ b. valued (λ t. b && t) later) b agree-here e
 

@@ -44,6 +44,7 @@ rows_on_wide {T} {U} r e whole f part h i k p = part_halts_rows r e whole f part
 -- ---- the value of a row at a point
 module _ {N : Type 0} (m : N → Number) (a : Arithmetic) (s : N) (cs xs : List N) (i : ℕ) (c x : N) (c_is : c ≡ get_or cs i c) (x_is : x ≡ get_or xs i x) (in_cs : i < length cs) (in_xs : i < length xs)
     (whole : Marked Number) (r : IsRest whole (marked_value a (m s) (drop i (map m cs)) (drop i (map m xs)))) where
+  -- the product at hand is the first that is left
   here : IsRest whole (marked_value a (m s) (m c ∷ drop (i + 1) (map m cs)) (m x ∷ drop (i + 1) (map m xs)))
   here =
       subst (λ ys. IsRest whole (marked_value a (m s) (m c ∷ drop (i + 1) (map m cs)) ys)) (drop-map_cons m xs i x x_is in_xs)
@@ -54,6 +55,7 @@ module _ {N : Type 0} (m : N → Number) (a : Arithmetic) (s : N) (cs xs : List 
   value-step t e =
       rest_step whole (plus_product a (m s) (m c) (m x)) (λ u. marked_value a u (drop (i + 1) (map m cs)) (drop (i + 1) (map m xs))) (m t) here e
 
+  -- the marks of this product and sum are among those of the whole
   pub value-part : IsPart whole (plus_product a (m s) (m c) (m x))
   value-part = step_part whole (plus_product a (m s) (m c) (m x)) (λ u. marked_value a u (drop (i + 1) (map m cs)) (drop (i + 1) (map m xs))) here
 

@@ -36,11 +36,13 @@ module _ (a : Arithmetic) (rows : PlainPiece) where
   unfolding trim
   trim-long h = or_left (nat_lt row_limit (length rows)) _ (lt-ltb row_limit (length rows) h)
 
+  -- the marks of the scaling are among those of trim
   pub trim-canons_part : IsPart (trim a rows) (each (canon a) rows)
   unfolding trim
   trim-canons_part =
       rest_part (trim a rows) (and_then (each (canon a) rows) (settled a)) (each (canon a) rows) (and_then-rest (counted rows) (λ rs. and_then (each (canon a) rs) (settled a))) (and_then-part (each (canon a) rows) (settled a))
 
+  -- after the scaling the settling is left
   pub trim-settled_rest : IsRest (trim a rows) (settled a (each (canon a) rows).value)
   unfolding trim
   trim-settled_rest =

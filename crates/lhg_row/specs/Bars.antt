@@ -52,6 +52,7 @@ meets_lower b v h =
     let r : lt b.slack (mul b.coef v) ≡ lt v q = ap (λ w. lt w (mul b.coef v)) (sym e) ∙ lt-mul_negative b.coef q v h in
     rw (p, r) refl
 
+-- the slack of a combination of two bars is a positive multiple of the distance of their bounds
 slack_split : (cu cl q r : Number) → add (mul (neg cl) (mul cu q)) (mul cu (mul cl r)) ≡ mul (mul (neg cl) cu) (add q (neg r))
 slack_split cu cl q r = simp sums
 
@@ -108,14 +109,17 @@ pub every-map : {A B : Type 0} (t : A → B) (f : B → Bool) (xs : List A) → 
 every-map t f [] h = tt
 every-map t f (x ∷ xs) h = (h.0, every-map t f xs h.1)
 
+-- what each image passes, each member passes by its image
 pub map-every : {A B : Type 0} (t : A → B) (f : B → Bool) (xs : List A) → Every f (map t xs) → Every (λ x. f (t x)) xs
 map-every t f [] h = tt
 map-every t f (x ∷ xs) h = (h.0, map-every t f xs h.1)
 
+-- and the test of all
 pub all_of-map : {A B : Type 0} (t : A → B) (f : B → Bool) (xs : List A) → all_of f (map t xs) ≡ all_of (λ x. f (t x)) xs
 all_of-map t f [] = refl
 all_of-map t f (x ∷ xs) = ap (λ b. f (t x) && b) (all_of-map t f xs)
 
+-- two tests that agree on members that pass a third
 pub all_same : {A : Type 0} (p f g : A → Bool) (xs : List A) → ((x : A) → p x ≡ true → f x ≡ g x) → Every p xs → all_of f xs ≡ all_of g xs
 all_same p f g [] e k = refl
 all_same p f g (x ∷ xs) e k = ap (λ b. b && all_of f xs) (e x k.0) ∙ ap (λ b. g x && b) (all_same p f g xs e k.1)
@@ -165,6 +169,7 @@ eliminated_has_value bs h =
           (every_same is_lower (λ b. over (bound_of b) v) (λ b. meets b v) lows (λ b e. sym (meets_lower b v e)) low (map-every bound_of (λ l. over l v) lows r.1)),
     )
 
+-- where one value meets all bars, each lower one fits each upper one
 pairs_stand : (us ls : List Bar) (v : Number) → Every is_upper us → Every is_lower ls → Every (λ b. meets b v) us → Every (λ b. meets b v) ls → Every (λ u. all_of (λ l. stands (comb_bar u l)) ls) us
 pairs_stand [] ls v p q h k = tt
 pairs_stand (u ∷ us) ls v p q h k = (all_from_every (λ l. stands (comb_bar u l)) ls (one ls q k), pairs_stand us ls v p.1 q h.1 k)

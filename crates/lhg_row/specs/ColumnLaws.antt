@@ -55,6 +55,7 @@ value-entries a f g s t (c ∷ cs) (d ∷ ds) [] e = refl
 value-entries a f g s t (c ∷ cs) (d ∷ ds) (y ∷ x) e =
     ap (λ w. row_value w (entries a f g cs ds).value x) (lin_step f g s t c d y) ∙ value-entries a f g (add s (mul c y)) (add t (mul d y)) cs ds x (omega arith)
 
+-- without a column, combined entries are the combination of the entries without it
 remove-entries : (a : Arithmetic) (f g : Number) (k : ℕ) (cs ds : List Number) → length cs ≡ length ds → k < length cs
     → remove (entries a f g cs ds).value k ≡ (entries a f g (remove cs k) (remove ds k)).value
 remove-entries a f g k [] ds e h = absurd (omega arith)
@@ -62,12 +63,14 @@ remove-entries a f g k (c ∷ cs) [] e h = absurd (omega arith)
 remove-entries a f g zero (c ∷ cs) (d ∷ ds) e h = refl
 remove-entries a f g (suc k) (c ∷ cs) (d ∷ ds) e h = ap (λ ys. add (mul f c) (mul g d) ∷ ys) (remove-entries a f g k cs ds (omega arith) (omega arith))
 
+-- two lists of one length have one without a place
 same_length : (k : ℕ) (cs ds : List Number) → length cs ≡ length ds → k < length cs → length (remove cs k) ≡ length (remove ds k)
 same_length k [] ds e h = absurd (omega arith)
 same_length k (c ∷ cs) [] e h = absurd (omega arith)
 same_length zero (c ∷ cs) (d ∷ ds) e h = omega arith
 same_length (suc k) (c ∷ cs) (d ∷ ds) e h = ap suc (same_length k cs ds (omega arith) (omega arith))
 
+-- the slack of a combination is the combination of the slacks
 comb_slack : (f g bu bl ru rl : Number) → add (add (mul f bu) (mul g bl)) (neg (add (mul f ru) (mul g rl))) ≡ add (mul f (add bu (neg ru))) (mul g (add bl (neg rl)))
 comb_slack f g bu bl ru rl = simp sums
 

@@ -1,15 +1,14 @@
 -- Why does a combination say what some value of the variable that cancels would say?
-use Rattle.std.specs.Prelude.{◌≡◌, ◌↔◌, ℕ, zero, suc, ◌<◌, Bool, true, false, List, [], ◌∷◌, ◌++◌, length, map, filter, flat_map, get_or}
+use Rattle.std.specs.Prelude.{◌≡◌, ℕ, zero, suc, ◌<◌, true, List, [], ◌∷◌, ◌++◌, length, map, filter, flat_map, get_or}
 use Rattle.std.proofs.Common.{refl, sym, ap, ◌∙◌, arith, subst}
 use Rattle.lhg_math.specs.Number.{Number, add, mul, neg, lt, nought}
-use Rattle.lhg_math.specs.NumberRing.{add_comm, mul_comm, add-neg, neg-mul, neg-add_cancel}
+use Rattle.lhg_math.specs.NumberRing.{mul_comm, add-neg, neg-mul, neg-add_cancel}
 use Rattle.lhg_math.specs.NumberOrder.{lt_asym}
 use Rattle.lhg_math.specs.Signs.{size_of}
 use Rattle.lhg_num.specs.Arithmetic.{Arithmetic}
-use Rattle.lhg_row.specs.Row.{PlainRow, PlainPoint, Holds, holds_at}
+use Rattle.lhg_row.specs.Row.{PlainRow}
 use Rattle.lhg_row.specs.Piece.{PlainPiece, InPiece}
 use Rattle.lhg_row.specs.Column.{coef_at, upper_at, lower_at, level_at, drop_column}
-use Rattle.lhg_row.specs.HasValue.{HasValue}
 use Rattle.lhg_row.specs.Width.{AllWide}
 use Rattle.lhg_row.specs.Combine.{entries, comb}
 use Rattle.lhg_row.specs.Combination.{AreOpposed, up_down, down_up, IsCombination}
@@ -24,6 +23,7 @@ entries-get_or a f g k (c ∷ cs) [] e h = absurd (omega arith)
 entries-get_or a f g zero (c ∷ cs) (d ∷ ds) e h = refl
 entries-get_or a f g (suc k) (c ∷ cs) (d ∷ ds) e h = entries-get_or a f g k cs ds (omega arith) (omega arith)
 
+-- numbers of opposite signs cancel, each times the size of the other
 opposed_cancel : (c d : Number) → AreOpposed c d → add (mul (size_of d) c) (mul (size_of c) d) ≡ nought
 opposed_cancel c d (up_down h k) =
     let x : size_of d ≡ neg d = rw k refl in
@@ -36,6 +36,7 @@ opposed_cancel c d (down_up h k) =
     ap (λ w. add (mul w c) (mul (size_of c) d)) x ∙ ap (λ w. add (mul d c) (mul w d)) y
     ∙ ap (λ w. add (mul d c) w) (neg-mul c d ∙ ap neg (mul_comm c d)) ∙ add-neg (mul d c)
 
+-- the combination does not speak of the variable
 comb_cancels : (a : Arithmetic) (k : ℕ) (r s : PlainRow) → length r.coefs ≡ length s.coefs → k < length r.coefs → AreOpposed (coef_at k r) (coef_at k s)
     → coef_at k (comb a r s k).value ≡ nought
 comb_cancels a k r s e h o = entries-get_or a (size_of (coef_at k s)) (size_of (coef_at k r)) k r.coefs s.coefs e h ∙ opposed_cancel (coef_at k r) (coef_at k s) o
@@ -57,6 +58,7 @@ upper_lower a k u l h j =
     let n = lt_asym (coef_at k l) nought j in
     left_by a k (u ∷ l ∷ []) [] (u ∷ []) (l ∷ []) (rw (h, m, j) refl) (rw (h, n) refl) (rw (m, j) refl)
 
+-- the same of a lower and an upper row
 lower_upper : (a : Arithmetic) (k : ℕ) (l u : PlainRow) → lt (coef_at k l) nought ≡ true → lt nought (coef_at k u) ≡ true
     → paired a k (l ∷ u ∷ []) ≡ drop_column k (comb a u l k).value ∷ []
 lower_upper a k l u j h =
@@ -64,6 +66,7 @@ lower_upper a k l u j h =
     let n = lt_asym (coef_at k l) nought j in
     left_by a k (l ∷ u ∷ []) [] (u ∷ []) (l ∷ []) (rw (h, m, j) refl) (rw (h, n) refl) (rw (m, j) refl)
 
+-- the combination is all that is left of two rows of opposite signs
 all_left : (a : Arithmetic) (k : ℕ) (r s : PlainRow) → AreOpposed (coef_at k r) (coef_at k s) → paired a k (r ∷ s ∷ []) ≡ drop_column k (comb a r s k).value ∷ []
 all_left a k r s (up_down h j) = upper_lower a k r s h j
 all_left a k r s (down_up j h) = lower_upper a k r s j h ∙ ap (λ (q : PlainRow). drop_column k q ∷ []) (comb_comm a s r k)

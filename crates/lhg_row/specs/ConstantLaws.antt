@@ -69,6 +69,7 @@ is_never-is r h =
     ap (λ cs. row cs r.strict r.bound) (lead-noughts r.coefs s.0) ∙ ap (λ k. row (replicate (length r.coefs) nought) k r.bound) t.0
     ∙ ap (λ b. row (replicate (length r.coefs) nought) true b) (nought_is r.bound t.1)
 
+-- one 0 less among zeros
 remove-replicate : (k m : ℕ) → k < suc m → remove (replicate (suc m) nought) k ≡ replicate m nought
 remove-replicate zero m h = refl
 remove-replicate (suc k) zero h = absurd (omega arith)

@@ -1,7 +1,7 @@
 -- Why does the list without a variable hold exactly where some value of the variable satisfies the rows?
 use Rattle.std.specs.Prelude.{◌≡◌, ◌↔◌, ℕ, suc, ◌<◌, Bool, true, false, not, cond, ◌||◌, ◌&&◌, List, [], ◌∷◌, ◌++◌, map, length, filter, insert, flat_map, Option, Some, None}
 use Rattle.std.proofs.Common.{refl, sym, ap, ◌∙◌, arith, subst}
-use Rattle.std.proofs.Math.Bool.{or_comm, and_comm, and_assoc}
+use Rattle.std.proofs.Math.Bool.{or_comm, and_assoc}
 use Rattle.std.proofs.lemmas.Bool.{and_parts, not-true}
 use Rattle.std.proofs.lemmas.List.{map-append}
 use Rattle.lhg_math.specs.Number.{Number, add, mul, lt, nought, quot}
@@ -11,8 +11,8 @@ use Rattle.lhg_math.specs.Quotients.{mul-quot, abs_pos_of_lt, abs_pos_of_gt}
 use Rattle.lhg_math.specs.Signs.{size_of}
 use Rattle.lhg_math.specs.Tests.{by_bool, false_true, every_from_all, all_from_every}
 use Rattle.lhg_num.specs.Arithmetic.{Arithmetic, IsLawful}
-use Rattle.lhg_num.specs.Marked.{each}
 use Rattle.lhg_num.specs.MarkedLaws.{each-value}
+use Rattle.lhg_row.specs.Conjunctions.{and_left_comm}
 use Rattle.lhg_row.specs.Row.{PlainRow, PlainPoint, holds_at}
 use Rattle.lhg_row.specs.Piece.{PlainPiece, InPiece, in_piece}
 use Rattle.lhg_row.specs.Column.{upper_at, lower_at, level_at, drop_column, coef_at}
@@ -38,6 +38,7 @@ entries_comm a f g [] (d ∷ ds) = refl
 entries_comm a f g (c ∷ cs) [] = refl
 entries_comm a f g (c ∷ cs) (d ∷ ds) = ap (λ x. x ∷ (entries a f g cs ds).value) (add_comm (mul f c) (mul g d)) ∙ ap (λ xs. add (mul g d) (mul f c) ∷ xs) (entries_comm a f g cs ds)
 
+-- the row of these coefficients, this kind and this bound
 abbrev row : List Number → Bool → Number → PlainRow
 row cs t b = record { coefs = cs; strict = t; bound = b }
 
@@ -54,14 +55,17 @@ comb_comm a r s k =
 quot_up : (c s v : Number) → lt nought c ≡ true → mul c v ≡ s → quot s c ≡ v
 quot_up c s v h e = cancel_up c (quot s c) v h (mul-quot s c (abs_pos_of_lt c h) ∙ sym e)
 
+-- division undoes a product with a negative number
 quot_down : (c s v : Number) → lt c nought ≡ true → mul c v ≡ s → quot s c ≡ v
 quot_down c s v h e = cancel_down c (quot s c) v h (mul-quot s c (abs_pos_of_gt c h) ∙ sym e)
 
+-- an upper bar is met at the value that a weak lower one fixes where their pair stands
 upper_by : (u m : Bar) (v : Number) → lt nought u.coef ≡ true → lt m.coef nought ≡ true → m.strict ≡ false → mul m.coef v ≡ m.slack → stands (comb_bar u m) ≡ meets u v
 upper_by u m v h k w e =
     stands_comb u m h k ∙ ap (λ x. cond (m.strict || u.strict) (lt x (quot u.slack u.coef)) (not (lt (quot u.slack u.coef) x))) (quot_down m.coef m.slack v k e)
     ∙ ap (λ t. cond (t || u.strict) (lt v (quot u.slack u.coef)) (not (lt (quot u.slack u.coef) v))) w ∙ sym (meets_upper u v h)
 
+-- a lower bar is met at the value that a weak upper one fixes where their pair stands
 lower_by : (l m : Bar) (v : Number) → lt l.coef nought ≡ true → lt nought m.coef ≡ true → m.strict ≡ false → mul m.coef v ≡ m.slack → stands (comb_bar m l) ≡ meets l v
 lower_by l m v h k w e =
     stands_comb m l k h ∙ ap (λ x. cond (l.strict || m.strict) (lt (quot l.slack l.coef) x) (not (lt x (quot l.slack l.coef)))) (quot_up m.coef m.slack v k e)
@@ -69,21 +73,27 @@ lower_by l m v h k w e =
 
 -- ---- the value that a pair decides
 module _ (x y : Bar) (p : ArePair x y) where
+  -- at the value that the pair fixes, the first of it reaches its bound
   x_met : mul x.coef (quot x.slack x.coef) ≡ x.slack
   x_met = elim p.opposed [ up_down h k ↦ mul-quot x.slack x.coef (abs_pos_of_lt x.coef h) | down_up h k ↦ mul-quot x.slack x.coef (abs_pos_of_gt x.coef h) ]
 
+  -- and so does the second
   y_met : mul y.coef (quot x.slack x.coef) ≡ y.slack
   y_met = p.met (quot x.slack x.coef) x_met
 
+  -- a weak bar whose bound is reached is met
   weak_meets : (b : Bar) (v : Number) → b.strict ≡ false → mul b.coef v ≡ b.slack → meets b v ≡ true
   weak_meets b v w e = rw (w, e, lt_irrefl b.slack) refl
 
+  -- the value meets the first of the pair
   x_meets : meets x (quot x.slack x.coef) ≡ true
   x_meets = weak_meets x (quot x.slack x.coef) p.weak_one x_met
 
+  -- and the second
   y_meets : meets y (quot x.slack x.coef) ≡ true
   y_meets = weak_meets y (quot x.slack x.coef) p.weak_other y_met
 
+  -- no value that meets a weak bar is past one that reaches its bound
   not_past : (b : Bar) (u v : Number) → b.strict ≡ false → mul b.coef u ≡ b.slack → meets b v ≡ true → lt (mul b.coef u) (mul b.coef v) ≡ false
   not_past b u v w e h = let k : not (lt b.slack (mul b.coef v)) ≡ true = rw w at h in ap (λ z. lt z (mul b.coef v)) e ∙ not-true _ k
 
@@ -104,10 +114,8 @@ pub in_piece-append : (xs ys : PlainPiece) (x : PlainPoint) → in_piece (xs ++ 
 in_piece-append [] ys x = refl
 in_piece-append (r ∷ xs) ys x = ap (λ b. holds_at r x && b) (in_piece-append xs ys x) ∙ sym (and_assoc (holds_at r x) (in_piece xs x) (in_piece ys x))
 
-and_left_comm : (a b c : Bool) → (a && (b && c)) ≡ (b && (a && c))
-and_left_comm a b c = sym (and_assoc a b c) ∙ ap (λ d. d && c) (and_comm a b) ∙ and_assoc b a c
-
 module _ (a : Arithmetic) (k n : ℕ) (rows : PlainPiece) (x : PlainPoint) (in_n : k < n) (n_is : n ≡ suc (length x)) where
+  -- a row holds at a value of the variable where the value meets its bar
   row_meets : (r : PlainRow) (v : Number) → length r.coefs ≡ n → holds_at r (insert x k v) ≡ meets (bar_at k x r) v
   row_meets r v w = holds-insert r k v x (omega (arith, w)) (w ∙ n_is)
 
@@ -200,6 +208,7 @@ module _ (a : Arithmetic) (k n : ℕ) (rows : PlainPiece) (x : PlainPoint) (in_n
       ap (λ xs. xs ++ (each_joined (with_lowers a k rows) ups).value) (each-value (λ l. comb a u l k) (filter (lower_at k) rows))
       ∙ ap (λ xs. map (λ l. (comb a u l k).value) (filter (lower_at k) rows) ++ xs) (no_pair ups)
 
+  -- what is left of the rows, by the pair or by all, is exact
   list_exact : (o : Option (ℕ × ℕ)) → HasPair a k rows o → AllWide n rows
       → (in_piece (without a k rows o).value x ≡ true → HasValue k rows x) × (HasValue k rows x → in_piece (without a k rows o).value x ≡ true)
   list_exact (Some p) is w = (pair-has_value p.0 p.1 is w, has_value-pair p.0 p.1 is w)

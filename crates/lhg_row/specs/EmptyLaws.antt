@@ -16,16 +16,19 @@ use Rattle.lhg_row.specs.Eliminate.{eliminate, is_empty}
 use Rattle.lhg_row.specs.EliminateLaws.{eliminate-exact}
 use Rattle.lhg_row.specs.WidthLaws.{eliminate-wide, eliminate-tidy, remove-length}
 
+-- an entry that is taken out and put back
 insert-remove : (k : ℕ) (x : PlainPoint) → k < length x → insert (remove x k) k (get_or x k nought) ≡ x
 insert-remove k [] h = absurd (omega arith)
 insert-remove zero (y ∷ x) h = refl
 insert-remove (suc k) (y ∷ x) h = ap (λ q. y ∷ q) (insert-remove k x (omega arith))
 
+-- a point with one entry more is one longer
 insert-length : (k : ℕ) (v : Number) (x : PlainPoint) → k ≤ length x → length (insert x k v) ≡ suc (length x)
 insert-length zero v x h = refl
 insert-length (suc k) v [] h = absurd (omega arith)
 insert-length (suc k) v (y ∷ x) h = ap suc (insert-length k v x (omega arith))
 
+-- a row without coefficients leads with 0
 no_coefs : (cs : List Number) → length cs ≡ 0 → is_nought (lead cs) ≡ true
 no_coefs [] h = is_nought-nought
 no_coefs (c ∷ cs) h = absurd (omega arith)

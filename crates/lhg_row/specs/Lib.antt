@@ -10,6 +10,7 @@ pub mod ColumnLaws
 pub mod Combination
 pub mod Combine
 pub mod CombineLaws
+pub mod Conjunctions
 pub mod Constant
 pub mod ConstantLaws
 pub mod Convex

@@ -35,6 +35,7 @@ negated-holds r x =
 move_step : (s t m c x d : Number) → add (add s (mul m t)) (mul c (add x (mul m d))) ≡ add (add s (mul c x)) (mul m (add t (mul c d)))
 move_step s t m c x d = simp sums
 
+-- the value of a row at a moved point is that at the point and m times that of the direction
 value-moved : (s t m : Number) (cs : List Number) (x by : PlainPoint) → length x ≡ length by
     → row_value (add s (mul m t)) cs (moved x m by) ≡ add (row_value s cs x) (mul m (row_value t cs by))
 value-moved s t m [] x by e = refl
@@ -51,6 +52,7 @@ lt_move r m b = sym (lt-add (add r m) b (neg r)) ∙ ap (λ w. lt w (add b (neg 
     cancel : (r m : Number) → add (add r m) (neg r) ≡ m
     cancel r m = ap (λ w. add w (neg r)) (add_comm r m) ∙ add_assoc m r (neg r) ∙ ap (λ w. add m w) (add-neg r) ∙ add-nought m
 
+-- what is added on one side of an order may be taken from the other
 pub move_lt : (r m b : Number) → lt b (add r m) ≡ lt (add b (neg r)) m
 move_lt r m b = sym (lt-add b (add r m) (neg r)) ∙ ap (λ w. lt (add b (neg r)) w) (cancel r m)
   where
@@ -74,10 +76,12 @@ shift-holds a r by m x e =
 abbrev named : (ℕ → Number) → ℕ → ℕ → List Number
 named g a n = map g (range_with_len a n)
 
+-- two ways of naming that agree at each place name the same numbers
 named-same : (f g : ℕ → Number) (a n : ℕ) → ((j : ℕ) → a < j + 1 → f j ≡ g j) → named f a n ≡ named g a n
 named-same f g a zero h = refl
 named-same f g a (suc n) h = ap (λ y. y ∷ named f (a + 1) n) (h a (omega arith)) ∙ ap (λ ys. g a ∷ ys) (named-same f g (a + 1) n (λ j k. h j (omega (arith, k))))
 
+-- where all coefficients are 0 the sum stays at its start
 named-nought : (s : Number) (a n : ℕ) (x : PlainPoint) → row_value s (named (λ j. nought) a n) x ≡ s
 named-nought s a zero x = refl
 named-nought s a (suc n) [] = refl
@@ -107,12 +111,14 @@ one_more s c g p a (suc i) (suc n) (y ∷ x) e h l z =
 abbrev IsNoPlace : ℕ → List ℕ → Type 0
 IsNoPlace p ps = (i d : ℕ) → i < length ps → p ≢ get_or ps i d
 
+-- a place that no coefficient has gets 0
 not_placed : (p : ℕ) (ps : List ℕ) (cs : List Number) → IsNoPlace p ps → coef_for p ps cs ≡ nought
 not_placed p [] cs h = refl
 not_placed p (q ∷ ps) [] h = refl
 not_placed p (q ∷ ps) (c ∷ cs) h =
     ap (λ b. cond b c (coef_for p ps cs)) (ne_eqb p q (h 0 0 (omega arith))) ∙ not_placed p ps cs (λ i d k. h (suc i) d (omega arith))
 
+-- the value of the renamed row is that of the old one at the entries that its coefficients came to
 value-renamed : (n : ℕ) (ps : List ℕ) (cs : List Number) (x : PlainPoint) → length ps ≡ length cs → length x ≡ n → All (λ p. p < n) ps → AllPairs (λ p q. p ≢ q) ps
     → row_value nought (named (λ j. coef_for j ps cs) 0 n) x ≡ row_value nought cs (picked ps x)
 value-renamed n [] [] x e l h d = named-nought nought 0 n x

@@ -16,9 +16,11 @@ use Rattle.lhg_row.specs.Width.{AllWide}
 use Rattle.lhg_row.specs.Trim.{counted, canon, settled, trim}
 use Rattle.lhg_row.specs.Eliminate.{pair_at, without, eliminate}
 
+-- 0 < 0 is not scaled
 canon-never : (a : Arithmetic) (m : ℕ) → canon a (never m) ≡ done (never m)
 canon-never a m = rw (noughts-lead m) refl
 
+-- and is settled
 settled-never : (a : Arithmetic) (m : ℕ) → settled a (never m ∷ []) ≡ done (never m ∷ [])
 settled-never a m =
     let is = ap (λ n. done (never n ∷ [])) (length-replicate m nought) in
@@ -31,6 +33,7 @@ trim-never a m =
     let rest = λ (c : Marked PlainRow) (s : PlainPiece → Marked PlainPiece). and_then (counted (never m ∷ [])) (λ rs. and_then (and_then c (λ y. valued (λ ys. y ∷ ys) (done []))) s) in
     ap (λ c. rest c (settled a)) (canon-never a m) ∙ settled-never a m
 
+-- each of many zeros is 0
 noughts-get_or : (n k : ℕ) → get_or (replicate n nought) k nought ≡ nought
 noughts-get_or zero k = refl
 noughts-get_or (suc n) zero = refl
@@ -44,6 +47,7 @@ without-never a k n = rw (noughts-get_or n k, lt_irrefl nought) refl
 abbrev pub eliminated : Arithmetic → ℕ → PlainPiece → Marked PlainPiece
 eliminated a k rows = and_then (pair_at a k 0 rows) (λ p. and_then (without a k rows p) (trim a))
 
+-- where the list is 0 < 0, the steps give it without the column
 eliminated-nothing : (a : Arithmetic) (k m : ℕ) (rows : PlainPiece) → k < suc m → AllWide (suc m) rows → is_nothing rows ≡ true
     → done (map (drop_column k) rows) ≡ eliminated a k rows
 eliminated-nothing a k m [] h w e = false_true e

@@ -1,22 +1,18 @@
 -- What is found as a pair, and what are the rows beside it?
-use Rattle.std.specs.Prelude.{◌≡◌, ℕ, zero, suc, ◌+◌, ◌<◌, Bool, true, false, cond, not, ◌||◌, ◌&&◌, List, [], ◌∷◌, ◌++◌, length, filter, get_or, remove, Option, Some, None}
+use Rattle.std.specs.Prelude.{◌≡◌, ℕ, zero, suc, ◌+◌, ◌<◌, Bool, true, false, cond, ◌||◌, ◌&&◌, [], ◌∷◌, length, filter, remove, Option, Some, None}
 use Rattle.std.proofs.Common.{refl, sym, ap, ◌∙◌, arith, subst}
-use Rattle.std.proofs.Math.Bool.{and_comm, and_assoc}
 use Rattle.std.proofs.lemmas.Bool.{or_parts, not-true}
 use Rattle.std.proofs.lemmas.List.Edits.{get_or-remove_below, length-remove}
 use Rattle.lhg_math.specs.Tests.{by_bool, false_true}
 use Rattle.lhg_num.specs.Arithmetic.{Arithmetic}
 use Rattle.lhg_num.specs.Marked.{Marked}
+use Rattle.lhg_row.specs.Conjunctions.{and_left_comm}
 use Rattle.lhg_row.specs.Row.{PlainRow, PlainPoint, holds_at}
 use Rattle.lhg_row.specs.Piece.{PlainPiece, in_piece}
 use Rattle.lhg_row.specs.Column.{level_at}
 use Rattle.lhg_row.specs.Constant.{never}
 use Rattle.lhg_row.specs.Width.{AllWide}
-use Rattle.lhg_row.specs.Eliminate.{is_opposite, is_candidate, is_mate, mate_at, mate_of, or_else, pair_at, row_at, beside}
-
--- ---- a list without one of its rows
-and_left_comm : (a b c : Bool) → (a && (b && c)) ≡ (b && (a && c))
-and_left_comm a b c = sym (and_assoc a b c) ∙ ap (λ d. d && c) (and_comm a b) ∙ and_assoc b a c
+use Rattle.lhg_row.specs.Eliminate.{is_opposite, is_candidate, is_mate, mate_at, or_else, pair_at, row_at, beside}
 
 -- a list holds where one of its rows and the others do
 pub in_piece-remove : (i : ℕ) (rows : PlainPiece) (x : PlainPoint) → i < length rows → in_piece rows x ≡ (holds_at (row_at rows i) x && in_piece (remove rows i) x)
@@ -53,10 +49,12 @@ abbrev HasMate : Arithmetic → ℕ → PlainRow → ℕ → PlainPiece → Opti
 HasMate a k r j rows None = Unit {0}
 HasMate a k r j rows (Some m) = (i : ℕ) × (m ≡ j + i) × IsMate a k r rows i
 
+-- a mate among the later rows is one among all
 later-mate : (a : Arithmetic) (k : ℕ) (r : PlainRow) (j : ℕ) (s : PlainRow) (rows : PlainPiece) (o : Option ℕ) → HasMate a k r (j + 1) rows o → HasMate a k r j (s ∷ rows) o
 later-mate a k r j s rows None h = tt
 later-mate a k r j s rows (Some m) (i, e, h) = (suc i, omega arith, record { in_list = let l = h.in_list in omega arith; opposite = h.opposite; weak = h.weak; there = h.there })
 
+-- a first row that is a mate is found at once
 first-mate : (a : Arithmetic) (k : ℕ) (r : PlainRow) (j : ℕ) (s : PlainRow) (rows : PlainPiece) → (is_mate a k r s).value ≡ true → HasMate a k r j (s ∷ rows) (Some j)
 first-mate a k r j s rows h =
     by_bool (is_candidate k s)
@@ -64,6 +62,7 @@ first-mate a k r j s rows h =
     (0, omega arith, record { in_list = omega arith; opposite = o; weak = c.0; there = c.1 }))
     (λ e. let z : false ≡ true = rw e at h in false_true z)
 
+-- what the search for a mate answers is one
 mate_at-is : (a : Arithmetic) (k : ℕ) (r : PlainRow) (j : ℕ) (rows : PlainPiece) → HasMate a k r j rows (mate_at a k r j rows).value
 mate_at-is a k r j [] = tt
 mate_at-is a k r j (s ∷ ss) =
@@ -87,6 +86,7 @@ abbrev IsFound : Arithmetic → ℕ → ℕ → PlainPiece → Option (ℕ × �
 IsFound a k n rows None = Unit {0}
 IsFound a k n rows (Some p) = (i : ℕ) × (j : ℕ) × (p.0 ≡ n + i) × (p.1 ≡ n + j) × IsPair a k rows i j
 
+-- a pair among the later rows is one among all
 later-pair : (a : Arithmetic) (k n : ℕ) (r : PlainRow) (rows : PlainPiece) (o : Option (ℕ × ℕ)) → IsFound a k (n + 1) rows o → IsFound a k n (r ∷ rows) o
 later-pair a k n r rows None h = tt
 later-pair a k n r rows (Some p) (i, j, e, f, h) = (
@@ -105,6 +105,7 @@ later-pair a k n r rows (Some p) (i, j, e, f, h) = (
   },
 )
 
+-- a row that may be of the pair, with its mate, is a pair; or else one comes later
 or_else-is : (a : Arithmetic) (k n : ℕ) (r : PlainRow) (rows : PlainPiece) (o : Option ℕ) (later : Marked (Option (ℕ × ℕ))) → is_candidate k r ≡ true → HasMate a k r (n + 1) rows o
     → IsFound a k n (r ∷ rows) later.value → IsFound a k n (r ∷ rows) (or_else n o later).value
 or_else-is a k n r rows None later c m h = h
@@ -125,6 +126,7 @@ or_else-is a k n r rows (Some j) later c (i, e, m) h =
       },
     )
 
+-- what the search for the pair answers is one
 found : (a : Arithmetic) (k n : ℕ) (rows : PlainPiece) → IsFound a k n rows (pair_at a k n rows).value
 found a k n [] = tt
 found a k n (r ∷ rs) =
@@ -151,9 +153,11 @@ pair_at-is a k rows = counted_from_0 (pair_at a k 0 rows).value (found a k 0 row
 
 -- ---- the rows beside a pair
 module _ (a : Arithmetic) (k : ℕ) (rows : PlainPiece) (i j : ℕ) (h : IsPair a k rows i j) where
+  -- the earlier of the two stays at its place when the later is gone
   one_is : row_at (remove rows j) i ≡ row_at rows i
   one_is = get_or-remove_below rows j (never 0) i h.in_order h.in_list
 
+  -- and is still in the list
   one_there : i < length (remove rows j)
   one_there = let l = length-remove rows j h.in_list in let o = h.in_order in let p = h.in_list in omega arith
 

@@ -33,6 +33,7 @@ cancel_down c x y h e =
 
 -- f * c = -g * d for positive f and g
 module _ (f g c d : Number) (f_up : lt nought f ≡ true) (g_up : lt nought g ≡ true) (e : mul f c ≡ mul (neg g) d) where
+  -- numbers with the same image under two positive factors are above 0 together
   sign_up : lt nought c ≡ lt d nought
   sign_up =
       sym (ap (λ w. lt w (mul f c)) (sym (mul-nought f)) ∙ lt-mul f nought c f_up)
@@ -40,6 +41,7 @@ module _ (f g c d : Number) (f_up : lt nought f ≡ true) (g_up : lt nought g �
       ∙ lt-nought_neg (mul g d)
       ∙ ap (λ w. lt (mul g d) w) (sym (mul-nought g)) ∙ lt-mul g d nought g_up
 
+  -- and below 0 together
   sign_down : lt c nought ≡ lt nought d
   sign_down =
       sym (ap (λ w. lt (mul f c) w) (sym (mul-nought f)) ∙ lt-mul f c nought f_up)
@@ -47,9 +49,11 @@ module _ (f g c d : Number) (f_up : lt nought f ≡ true) (g_up : lt nought g �
       ∙ ap (λ w. lt (neg (mul g d)) w) (sym neg_nought) ∙ lt-neg (mul g d) nought
       ∙ ap (λ w. lt w (mul g d)) (sym (mul-nought g)) ∙ lt-mul g nought d g_up
 
+  -- where the one is above 0, the other is below
   opposed_up : lt nought c ≡ true → AreOpposed c d
   opposed_up h = up_down h (sym sign_up ∙ h)
 
+  -- and the other way round
   opposed_down : lt c nought ≡ true → AreOpposed c d
   opposed_down h = down_up h (sym sign_down ∙ h)
 
@@ -72,21 +76,25 @@ pub there-varies : (k : ℕ) (r : PlainRow) → level_at k r ≡ false → is_co
 there-varies k r h =
     by_bool (is_constant r) (λ e. false_true (sym h ∙ (ap is_nought (lead-get_or r.coefs k e) ∙ is_nought-nought))) (λ e. e)
 
+-- the negatives of multiples are the multiples with the negative
 neg_times : (g : Number) (xs : List Number) → map (λ x. neg (mul g x)) xs ≡ map (λ x. mul (neg g) x) xs
 neg_times g [] = refl
 neg_times g (x ∷ xs) = ap (λ y. y ∷ map (λ z. neg (mul g z)) xs) (sym (neg-mul g x)) ∙ ap (λ ys. mul (neg g) x ∷ ys) (neg_times g xs)
 
+-- a multiple of a row has the multiple of its entry
 get_or-times : (m : Number) (cs : List Number) (k : ℕ) → get_or (map (λ x. mul m x) cs) k nought ≡ mul m (get_or cs k nought)
 get_or-times m [] k = sym (mul-nought m)
 get_or-times m (c ∷ cs) zero = refl
 get_or-times m (c ∷ cs) (suc k) = get_or-times m cs k
 
+-- and of what is left without a place
 remove-times : (m : Number) (k : ℕ) (cs : List Number) → remove (map (λ x. mul m x) cs) k ≡ map (λ x. mul m x) (remove cs k)
 remove-times m zero [] = refl
 remove-times m (suc k) [] = refl
 remove-times m zero (c ∷ cs) = refl
 remove-times m (suc k) (c ∷ cs) = ap (λ ys. mul m c ∷ ys) (remove-times m k cs)
 
+-- a factor comes out of a bound less a sum
 slack_times : (m b w : Number) → add (mul m b) (neg (mul m w)) ≡ mul m (add b (neg w))
 slack_times m b w = sym (mul-add m b (neg w) ∙ ap (λ z. add (mul m b) z) (mul-neg m w))
 
@@ -94,6 +102,7 @@ slack_times m b w = sym (mul-add m b (neg w) ∙ ap (λ z. add (mul m b) z) (mul
 abbrev slack_of : PlainPoint → ℕ → List Number → Number → Number
 slack_of x k cs b = add b (neg (row_value nought (remove cs k) x))
 
+-- and out of the slack of a row
 slack-times : (x : PlainPoint) (k : ℕ) (m : Number) (cs : List Number) (b : Number) → slack_of x k (map (λ y. mul m y) cs) (mul m b) ≡ mul m (slack_of x k cs b)
 slack-times x k m cs b =
     ap (λ ds. add (mul m b) (neg (row_value nought ds x))) (remove-times m k cs)

@@ -14,6 +14,7 @@ use Rattle.lhg_math.specs.Tests.{Every, any_of, by_bool, false_true}
 use Rattle.lhg_math.specs.Bounds.{Bound, under, le_from_under, under_from_lt}
 use Rattle.lhg_num.specs.Arithmetic.{Arithmetic, IsLawful, scaled, scaled_multiple}
 use Rattle.lhg_num.specs.Marked.{each}
+use Rattle.lhg_row.specs.Conjunctions.{and_left_comm}
 use Rattle.lhg_row.specs.Row.{PlainRow, PlainPoint, row_value, holds_at}
 use Rattle.lhg_row.specs.Piece.{PlainPiece, in_piece}
 use Rattle.lhg_row.specs.Constant.{is_constant, varies, is_true, is_false}
@@ -67,6 +68,7 @@ less_under : (l m : Bound) (v : Number) → lt l.at m.at ≡ true → under l v 
 less_under l m v h =
     by_bool (under l v) (λ e. let k : under m v ≡ true = under_from_lt m v (le-lt_trans v l.at m.at (le_from_under l v e) h) in e ∙ sym (rw (e, k) refl)) (λ e. e ∙ sym (rw e refl))
 
+-- a bound and whether it is strict
 abbrev bounded : Number → Bool → Bound
 bounded b strict = record { at = b; strict = strict }
 
@@ -76,9 +78,6 @@ both_under b v true true = by_bool (lt v b) (λ e. rw e refl) (λ e. rw e refl)
 both_under b v true false = by_bool (lt v b) (λ e. rw (e, lt_asym v b e) refl) (λ e. rw e refl)
 both_under b v false true = by_bool (lt v b) (λ e. rw (e, lt_asym v b e) refl) (λ e. by_bool (lt b v) (λ f. rw (e, f) refl) (λ f. rw (e, f) refl))
 both_under b v false false = by_bool (lt b v) (λ e. rw e refl) (λ e. rw e refl)
-
-and_left_comm : (a b c : Bool) → (a && (b && c)) ≡ (b && (a && c))
-and_left_comm a b c = sym (and_assoc a b c) ∙ ap (λ d. d && c) (and_comm a b) ∙ and_assoc b a c
 
 module _ (a : Arithmetic) (r s : PlainRow) (r_varies : is_constant r ≡ false) (s_varies : is_constant s ≡ false) where
   -- the tighter of two rows with one direction holds where both do
@@ -125,6 +124,7 @@ placed-holds a r (s ∷ ss) x h k =
     (λ e. rw e (ap (λ b. b && in_piece ss x) (tighter-holds a r s (not-true _ h) (not-true _ k.0) x e) ∙ and_assoc (holds_at r x) (holds_at s x) (in_piece ss x)))
     (λ e. rw e (ap (λ b. holds_at s x && b) (placed-holds a r ss x h k.1) ∙ and_left_comm (holds_at s x) (holds_at r x) (in_piece ss x)))
 
+-- gathering keeps the points of the kept rows and of the others
 gathered-holds : (a : Arithmetic) (ks rows : PlainPiece) (x : PlainPoint) → Every varies ks → Every varies rows
     → in_piece (gathered a ks rows).value x ≡ (in_piece ks x && in_piece rows x)
 gathered-holds a ks [] x h k = sym (and-true (in_piece ks x))

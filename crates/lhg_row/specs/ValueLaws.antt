@@ -2,7 +2,7 @@
 use Rattle.std.specs.Prelude.{◌≡◌, Bool, true, false, not, cond, List, [], ◌∷◌, map}
 use Rattle.std.proofs.Common.{refl, sym, ap, ◌∙◌}
 use Rattle.lhg_math.specs.Number.{Number, add, mul, lt, nought, compare}
-use Rattle.lhg_math.specs.NumberRing.{add_comm, add_assoc, add_left_comm, add-nought, mul-nought, nought-mul, mul-add, mul_assoc}
+use Rattle.lhg_math.specs.NumberRing.{add_comm, add_assoc, add-nought, mul-nought, nought-mul, mul-add, mul_assoc}
 use Rattle.lhg_math.specs.NumberOrder.{lt-mul, lt_asym}
 use Rattle.lhg_math.specs.Signs.{is_nought, lead}
 use Rattle.lhg_math.specs.SignLaws.{nought_is}
@@ -44,7 +44,7 @@ truth-value a r x =
 
 -- ---- the start of the sum
 regroup : (s c x m : Number) → add (add s m) (mul c x) ≡ add (add s (mul c x)) m
-regroup s c x m = simp (add_assoc, add_left_comm, add_comm)
+regroup s c x m = simp (add_assoc, add_comm)
 
 -- what the sum starts with comes out of it
 pub value_onto : (s m : Number) (cs : List Number) (xs : PlainPoint) → row_value (add s m) cs xs ≡ add (row_value s cs xs) m

@@ -38,6 +38,7 @@ pub append-wide : (n : ℕ) (xs ys : PlainPiece) → AllWide n xs → AllWide n 
 append-wide n [] ys v w = w
 append-wide n (x ∷ xs) ys v w = (v.0, append-wide n xs ys v.1 w)
 
+-- the tighter of two rows of one width has it
 tighter-wide : (o : Ordering) (n : ℕ) (s r : PlainRow) → length s.coefs ≡ n → length r.coefs ≡ n → length (tighter o s r).coefs ≡ n
 tighter-wide Less n s r h k = k
 tighter-wide Equal n s r h k = h
@@ -54,6 +55,7 @@ pub gathered-wide : (a : Arithmetic) (n : ℕ) (ks rows : PlainPiece) → AllWid
 gathered-wide a n ks [] v w = v
 gathered-wide a n ks (r ∷ rows) v w = gathered-wide a n (placed a r ks).value rows (placed-wide a n r ks w.0 v) w.1
 
+-- and so have the settled rows
 settled-wide : (a : Arithmetic) (n : ℕ) (rows : PlainPiece) → AllWide n rows → AllWide n (settled a rows).value
 settled-wide a n [] w = tt
 settled-wide a n (r ∷ rows) w =
@@ -65,6 +67,7 @@ pub trim-wide : (a : Arithmetic) (n : ℕ) (rows : PlainPiece) → IsLawful a �
 unfolding trim
 trim-wide a n rows laws w = settled-wide a n (each (canon a) rows).value (canons-wide a n rows laws w)
 
+-- settled rows are tidy
 settled-tidy : (a : Arithmetic) (rows : PlainPiece) → IsTidy (settled a rows).value
 settled-tidy a [] = inr tt
 settled-tidy a (r ∷ rows) =
@@ -90,6 +93,7 @@ remove-length zero m (x ∷ xs) e h = omega arith
 remove-length (suc k) zero (x ∷ xs) e h = absurd (omega arith)
 remove-length (suc k) (suc m) (x ∷ xs) e h = ap suc (remove-length k m xs (omega arith) (omega arith))
 
+-- rows without one column are one narrower
 drop-wide : (k m : ℕ) (rows : PlainPiece) → k < suc m → AllWide (suc m) rows → AllWide m (map (drop_column k) rows)
 drop-wide k m [] h w = tt
 drop-wide k m (r ∷ rows) h w = (remove-length k m r.coefs w.0 h, drop-wide k m rows h w.1)
@@ -99,10 +103,12 @@ module _ (a : Arithmetic) (k n : ℕ) where
   pub comb-wide : (r s : PlainRow) → length r.coefs ≡ n → length s.coefs ≡ n → length (comb a r s k).value.coefs ≡ n
   comb-wide r s h i = entries-length a (size_of (coef_at k s)) (size_of (coef_at k r)) r.coefs s.coefs (h ∙ sym i) ∙ h
 
+  -- combinations of one row with others have the width of all
   with_lows : (u : PlainRow) (lows : PlainPiece) → length u.coefs ≡ n → AllWide n lows → AllWide n (each (λ l. comb a u l k) lows).value
   with_lows u [] h w = tt
   with_lows u (l ∷ lows) h w = (comb-wide u l h w.0, with_lows u lows h w.1)
 
+  -- and those of each upper with each lower row
   all_pairs : (rows ups : PlainPiece) → AllWide n rows → AllWide n ups → AllWide n (each_joined (with_lowers a k rows) ups).value
   all_pairs rows [] w v = tt
   all_pairs rows (u ∷ ups) w v =
@@ -112,10 +118,12 @@ module _ (a : Arithmetic) (k n : ℕ) where
   pub partner-wide : (one other r : PlainRow) → length one.coefs ≡ n → length other.coefs ≡ n → length (partner k one other r).coefs ≡ n
   partner-wide one other r h i = by_bool (same_side k r one) (λ e. rw e i) (λ e. rw e h)
 
+  -- and those with the one or the other of a pair
   with_partner : (one other : PlainRow) (rs : PlainPiece) → length one.coefs ≡ n → length other.coefs ≡ n → AllWide n rs → AllWide n (each (λ r. comb a r (partner k one other r) k) rs).value
   with_partner one other [] h i w = tt
   with_partner one other (r ∷ rs) h i w = (comb-wide r (partner k one other r) w.0 (partner-wide one other r h i), with_partner one other rs h i w.1)
 
+  -- all combinations have the width of the rows
   combinations-wide : (rows : PlainPiece) (o : Option (ℕ × ℕ)) → HasPair a k rows o → AllWide n rows → AllWide n (combinations a k rows o).value
   combinations-wide rows None is w = all_pairs rows (filter (upper_at k) rows) w (filter-wide n (upper_at k) rows w)
   combinations-wide rows (Some p) is w =
@@ -136,6 +144,7 @@ eliminate-wide a k m rows laws h w =
     by_bool (is_nothing rows) (λ f. rw f (drop-wide k m rows h w))
     (λ f. rw f (trim-wide a m (without a k rows (pair_at a k 0 rows).value).value laws (without-wide a k m rows h w)))
 
+-- without a column 0 < 0 is 0 < 0
 nothing-dropped : (k m : ℕ) (rows : PlainPiece) → k < suc m → AllWide (suc m) rows → is_nothing rows ≡ true → is_nothing (map (drop_column k) rows) ≡ true
 nothing-dropped k m [] i w h = h
 nothing-dropped k m (r ∷ []) i w h =

@@ -24,14 +24,17 @@ pub filter-wide : (n : ℕ) (p : PlainRow → Bool) (rows : PlainPiece) → AllW
 filter-wide n p [] h = tt
 filter-wide n p (r ∷ rs) h = by_bool (p r) (λ e. rw e (h.0, filter-wide n p rs h.1)) (λ e. rw e (filter-wide n p rs h.1))
 
+-- what each member of two lists passes, each of both together does
 every_append : {A : Type 0} (f : A → Bool) (xs ys : List A) → Every f xs → Every f ys → Every f (xs ++ ys)
 every_append f [] ys h k = k
 every_append f (x ∷ xs) ys h k = (h.0, every_append f xs ys h.1 k)
 
+-- and back
 append_every : {A : Type 0} (f : A → Bool) (xs ys : List A) → Every f (xs ++ ys) → Every f xs × Every f ys
 append_every f [] ys h = (tt, h)
 append_every f (x ∷ xs) ys h = let r = append_every f xs ys h.1 in ((h.0, r.0), r.1)
 
+-- the images that pass a test are the images of the members whose image passes it
 filter-map : {A B : Type 0} (t : A → B) (p : B → Bool) (xs : List A) → filter p (map t xs) ≡ map t (filter (λ x. p (t x)) xs)
 filter-map t p [] = refl
 filter-map t p (x ∷ xs) = by_bool (p (t x)) (λ e. rw e (ap (λ ys. t x ∷ ys) (filter-map t p xs))) (λ e. rw e (filter-map t p xs))
@@ -41,36 +44,44 @@ to_stand : (k : ℕ) (x : PlainPoint) (rows : PlainPiece) → InPiece (map (drop
 to_stand k x [] h = tt
 to_stand k x (r ∷ rs) h = (sym (holds-drop_column r k x) ∙ h.0, to_stand k x rs h.1)
 
+-- rows without the variable hold where their bars stand
 from_stand : (k : ℕ) (x : PlainPoint) (rows : PlainPiece) → Every stands (map (bar_at k x) rows) → InPiece (map (drop_column k) rows) x
 from_stand k x [] h = tt
 from_stand k x (r ∷ rs) h = (holds-drop_column r k x ∙ h.0, from_stand k x rs h.1)
 
 module _ (a : Arithmetic) (k n : ℕ) (x : PlainPoint) (in_n : k < n) (n_is : n ≡ suc (length x)) where
+  -- where rows hold, the value meets their bars
   to_meet : (v : Number) (rows : PlainPiece) → AllWide n rows → InPiece rows (insert x k v) → Every (λ b. meets b v) (map (bar_at k x) rows)
   to_meet v [] w h = tt
   to_meet v (r ∷ rs) w h = (sym (holds-insert r k v x (omega (arith, w.0)) (w.0 ∙ n_is)) ∙ h.0, to_meet v rs w.1 h.1)
 
+  -- and back
   from_meet : (v : Number) (rows : PlainPiece) → AllWide n rows → Every (λ b. meets b v) (map (bar_at k x) rows) → InPiece rows (insert x k v)
   from_meet v [] w h = tt
   from_meet v (r ∷ rs) w h = (holds-insert r k v x (omega (arith, w.0)) (w.0 ∙ n_is) ∙ h.0, from_meet v rs w.1 h.1)
 
+  -- the bar of a combination is the pair of the two bars
   comb_row : (u l : PlainRow) → length u.coefs ≡ n → length l.coefs ≡ n → upper_at k u ≡ true → lower_at k l ≡ true
       → holds_at (drop_column k (comb a u l k).value) x ≡ stands (comb_bar (bar_at k x u) (bar_at k x l))
   comb_row u l e f h j = holds-comb a u l k x (e ∙ sym f) (omega (arith, e)) h j
 
+  -- where the combinations with one upper row stand, so do the pairs of their bars
   row_pairs : (u : PlainRow) (ls : PlainPiece) → length u.coefs ≡ n → upper_at k u ≡ true → AllWide n ls → Every (lower_at k) ls
       → InPiece (map (drop_column k) (map (λ l. (comb a u l k).value) ls)) x → Every (λ l. stands (comb_bar (bar_at k x u) l)) (map (bar_at k x) ls)
   row_pairs u [] e h w lo s = tt
   row_pairs u (l ∷ ls) e h w lo s = (sym (comb_row u l e w.0 h lo.0) ∙ s.0, row_pairs u ls e h w.1 lo.1 s.1)
 
+  -- and back
   pairs_row : (u : PlainRow) (ls : PlainPiece) → length u.coefs ≡ n → upper_at k u ≡ true → AllWide n ls → Every (lower_at k) ls
       → Every (λ l. stands (comb_bar (bar_at k x u) l)) (map (bar_at k x) ls) → InPiece (map (drop_column k) (map (λ l. (comb a u l k).value) ls)) x
   pairs_row u [] e h w lo s = tt
   pairs_row u (l ∷ ls) e h w lo s = (comb_row u l e w.0 h lo.0 ∙ s.0, pairs_row u ls e h w.1 lo.1 s.1)
 
+  -- the combinations of each upper with each lower row, over the other variables
   abbrev combs : PlainPiece → PlainPiece → PlainPiece
   combs ls us = flat_map (λ u. map (λ l. (comb a u l k).value) ls) us
 
+  -- where all combinations hold, all pairs of bars stand
   to_pairs : (us ls : PlainPiece) → AllWide n us → Every (upper_at k) us → AllWide n ls → Every (lower_at k) ls
       → InPiece (map (drop_column k) (combs ls us)) x → Every (λ u. all_of (λ l. stands (comb_bar u l)) (map (bar_at k x) ls)) (map (bar_at k x) us)
   to_pairs [] ls wu up wl lo h = tt
@@ -78,6 +89,7 @@ module _ (a : Arithmetic) (k n : ℕ) (x : PlainPoint) (in_n : k < n) (n_is : n 
       let s = append_every (λ r. holds_at r x) _ _ (subst (λ rows. InPiece rows x) (map-append (drop_column k) (map (λ l. (comb a u l k).value) ls) (combs ls us)) h) in
       (all_from_every _ (map (bar_at k x) ls) (row_pairs u ls wu.0 up.0 wl lo s.0), to_pairs us ls wu.1 up.1 wl lo s.1)
 
+  -- and back
   from_pairs : (us ls : PlainPiece) → AllWide n us → Every (upper_at k) us → AllWide n ls → Every (lower_at k) ls
       → Every (λ u. all_of (λ l. stands (comb_bar u l)) (map (bar_at k x) ls)) (map (bar_at k x) us) → InPiece (map (drop_column k) (combs ls us)) x
   from_pairs [] ls wu up wl lo h = tt

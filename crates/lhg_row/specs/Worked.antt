@@ -22,6 +22,7 @@ strict cs b = record { coefs = map whole cs; strict = true; bound = whole b }
 abbrev pub one : ℤ
 one = pos 1
 
+-- -1
 abbrev pub minus_one : ℤ
 minus_one = negsuc 0
 
@@ -108,14 +109,17 @@ pub trim_rows : TrimRows
 unfolding gcd ratio_suc ratio add mul neg sub whole lt nought unit inverse quot trim
 trim_rows = record { none = refl; no_variable = refl; false_row = refl; false_alone = refl; one_direction = refl; in_place = refl }
 
+-- they are computed
 pub eliminate_rows : EliminateRows
 unfolding gcd ratio_suc ratio add mul neg sub whole lt nought unit inverse quot trim eliminate
 eliminate_rows = record { none = refl; nothing = refl; strict_bound = refl; weak_bound = refl; by_pair = refl; no_pair = refl }
 
+-- they are computed
 pub empty_rows : EmptyRows
 unfolding gcd ratio_suc ratio add mul neg sub whole lt nought unit inverse quot trim eliminate
 empty_rows = record { none = refl; everything = refl; nothing = refl; strict_edge = refl; weak_edge = refl; circle = refl }
 
+-- they are computed
 pub mark_rows : MarkRows
 unfolding gcd ratio_suc ratio add mul neg sub whole lt nought unit inverse quot trim eliminate
 mark_rows = record { within = refl; wide = refl; long = refl; full = refl }

@@ -8,6 +8,8 @@ pub mod piece_laws;
 mod rows;
 pub mod scaling;
 mod systems;
+#[cfg(test)]
+mod tests;
 mod trimming;
 mod values;
 

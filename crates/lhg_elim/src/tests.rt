@@ -1,0 +1,114 @@
+// Worked eliminations over x and y, and lists with and without a point.
+ghost use Rattle.std.specs.Prelude.{◌≡◌, IfOk, length};
+ghost use Rattle.lhg_row.specs.Width.{AllWide};
+
+use crate::{comb, eliminate, is_empty};
+use lhg_num::{Frac, Halt};
+use lhg_row::{Kind, Row, System, trim};
+use std::alloc::Global;
+use std::process::Abort;
+use std::test::Fail;
+
+// The coefficients of x and y, the kind, and the bound.
+type Line = (i64, i64, Kind, i64);
+
+// The coefficient of the first variable, the kind, and the bound.
+type Shown = (Option<(i128, i128)>, Kind, (i128, i128));
+
+fn parts(x: &Frac) -> (i128, i128) {
+    (x.numer(), x.denom())
+}
+
+fn shown(row: &Row<Frac>) -> Shown {
+    (row.coefs.first().map(parts), row.kind, parts(&row.bound))
+}
+
+fn row(alloc: Global, line: &Line) -> Result<Row<Frac>, Halt>
+    ensures { IfOk result (λ r. length r.coefs ≡ 2) }
+{
+    let (x, y, kind, bound) = *line;
+    let coefs = [Frac::from(x), Frac::from(y)].to_vec(alloc)?;
+    Ok(Row {
+        coefs,
+        kind,
+        bound: Frac::from(bound),
+    })
+}
+
+fn system(alloc: Global, lines: &[Line]) -> Result<System<Frac>, Halt>
+    ensures { IfOk result (λ s. s.width ≡ 2) }
+{
+    let mut rows = Vec::with_capacity(alloc, lines.len())?;
+    for line in lines {
+        rows.push(row(alloc, line)?)?;
+    }
+    trim(alloc, 2, rows)
+}
+
+// i*x + y <= 1 and i*x - y <= 1 for i from 1 to the count.
+fn fan(alloc: Global, count: i64) -> Result<System<Frac>, Halt>
+    ensures { IfOk result (λ s. s.width ≡ 2) }
+{
+    let mut lines = Vec::new(alloc);
+    for i in 1..=count {
+        lines.push((i, 1, Kind::Weak, 1))?;
+        lines.push((i, -1, Kind::Weak, 1))?;
+    }
+    system(alloc, &lines)
+}
+
+#[test]
+fn eliminates_y(rt: HostRuntime) -> Result<(), Fail> {
+    let below = system(
+        rt.alloc(),
+        &[(1, -1, Kind::Weak, 0), (0, 1, Kind::Strict, 3)],
+    )?;
+    let fixed = system(
+        rt.alloc(),
+        &[
+            (1, -1, Kind::Weak, 0),
+            (-2, 2, Kind::Weak, 0),
+            (0, 1, Kind::Strict, 3),
+        ],
+    )?;
+    let cases = [
+        (below, (Some((1, 1)), Kind::Strict, (3, 1))),
+        (fixed, (Some((1, 1)), Kind::Strict, (3, 1))),
+        (fan(rt.alloc(), 90)?, (Some((1, 1)), Kind::Weak, (1, 90))),
+    ];
+    for (sys, want) in cases {
+        assert!(rt; sys.vars() == 2);
+        let left = eliminate(rt.alloc(), &sys, 1)?;
+        assert_eq!(rt; left.rows().len(), 1);
+        assert_eq!(rt; left.rows().first().map(shown), Some(want));
+    }
+    let long = fan(rt.alloc(), 92)?;
+    assert_eq!(rt; eliminate(rt.alloc(), &long, 1).err(), Some(Halt::Rows));
+    Ok(())
+}
+
+#[test]
+fn finds_empty_lists(rt: HostRuntime) -> Result<(), Fail> {
+    let cases = [
+        ([(1, 0, Kind::Strict, 1), (-1, 0, Kind::Weak, -1)], true),
+        ([(1, 0, Kind::Weak, 1), (-1, 0, Kind::Weak, -1)], false),
+        ([(1, -1, Kind::Weak, 0), (0, 1, Kind::Strict, 3)], false),
+        ([(1, 1, Kind::Weak, 0), (-2, -2, Kind::Weak, -1)], true),
+        ([(0, 0, Kind::Weak, 0), (0, 0, Kind::Strict, 1)], false),
+        ([(0, 0, Kind::Strict, 0), (1, 0, Kind::Weak, 1)], true),
+    ];
+    for (lines, want) in cases {
+        let sys = system(rt.alloc(), &lines)?;
+        assert_eq!(rt; is_empty(rt.alloc(), &sys)?, want, "{lines:?}");
+    }
+    Ok(())
+}
+
+#[test]
+fn combines(rt: HostRuntime) -> Result<(), Fail> {
+    let r = row(rt.alloc(), &(1, -1, Kind::Weak, 0))?;
+    let s = row(rt.alloc(), &(0, 1, Kind::Strict, 3))?;
+    let both = comb(rt.alloc(), &r, &s, 1)?;
+    assert_eq!(rt; shown(&both), (Some((1, 1)), Kind::Strict, (3, 1)));
+    Ok(())
+}

@@ -1,0 +1,173 @@
+// Operations on rows at fractions, and lists that are trimmed.
+ghost use Rattle.std.specs.Prelude.{◌≡◌, IfOk, length};
+ghost use Rattle.lhg_row.specs.Width.{AllWide};
+
+use crate::scaling::{Sense, agree, agree_at, lead, lead_size, size, stricter, times};
+use crate::{Kind, Point, ROW_LIMIT, Row, System, holds, negate, relax, rename, shift, trim};
+use lhg_num::{Frac, Halt};
+use std::alloc::Global;
+use std::process::Abort;
+use std::test::Fail;
+
+// The coefficients of x and y, the kind, and the bound.
+type Line = (i64, i64, Kind, i64);
+
+// What a row is, with the last of its coefficients.
+type Shown = (usize, Option<(i128, i128)>, Kind, (i128, i128));
+
+fn parts(x: &Frac) -> (i128, i128) {
+    (x.numer(), x.denom())
+}
+
+fn shown(row: &Row<Frac>) -> Shown {
+    (
+        row.coefs.len(),
+        row.coefs.last().map(parts),
+        row.kind,
+        parts(&row.bound),
+    )
+}
+
+// x with this kind and bound.
+fn over_x(alloc: Global, kind: Kind, bound: i64) -> Result<Row<Frac>, Halt>
+    ensures { IfOk result (λ r. length r.coefs ≡ 1) }
+{
+    let coefs = [Frac::from(1)].to_vec(alloc)?;
+    Ok(Row {
+        coefs,
+        kind,
+        bound: Frac::from(bound),
+    })
+}
+
+fn row(alloc: Global, line: &Line) -> Result<Row<Frac>, Halt>
+    ensures { IfOk result (λ r. length r.coefs ≡ 2) }
+{
+    let (x, y, kind, bound) = *line;
+    let coefs = [Frac::from(x), Frac::from(y)].to_vec(alloc)?;
+    Ok(Row {
+        coefs,
+        kind,
+        bound: Frac::from(bound),
+    })
+}
+
+fn system(alloc: Global, lines: &[Line]) -> Result<System<Frac>, Halt> {
+    let mut rows = Vec::with_capacity(alloc, lines.len())?;
+    for line in lines {
+        rows.push(row(alloc, line)?)?;
+    }
+    trim(alloc, 2, rows)
+}
+
+// The rows x <= i for i from 1 to the count.
+fn steps(alloc: Global, count: i64) -> Result<System<Frac>, Halt> {
+    let mut lines = Vec::new(alloc);
+    for i in 1..=count {
+        lines.push((1, 0, Kind::Weak, i))?;
+    }
+    system(alloc, &lines)
+}
+
+fn tells_points(rt: &impl Abort, alloc: Global) -> Result<(), Halt> {
+    for (kind, at, want) in [
+        (Kind::Weak, 3, true),
+        (Kind::Strict, 3, false),
+        (Kind::Strict, 2, true),
+        (Kind::Weak, 4, false),
+    ] {
+        let row = over_x(alloc, kind, 3)?;
+        let at = Point {
+            at: [Frac::from(at)].to_vec(alloc)?,
+        };
+        assert_eq!(rt; holds(&row, &at)?, want, "{kind:?}");
+    }
+    Ok(())
+}
+
+#[test]
+fn operations(rt: HostRuntime) -> Result<(), Fail> {
+    tells_points(&rt, rt.alloc())?;
+    let weak = over_x(rt.alloc(), Kind::Weak, 3)?;
+    let strict = over_x(rt.alloc(), Kind::Strict, 3)?;
+    let by = Point {
+        at: [Frac::from(2)].to_vec(rt.alloc())?,
+    };
+    let cases = [
+        (
+            negate(rt.alloc(), &weak)?,
+            (1, Some((-1, 1)), Kind::Strict, (-3, 1)),
+        ),
+        (
+            negate(rt.alloc(), &strict)?,
+            (1, Some((-1, 1)), Kind::Weak, (-3, 1)),
+        ),
+        (
+            relax(rt.alloc(), &strict)?,
+            (1, Some((1, 1)), Kind::Weak, (3, 1)),
+        ),
+        (
+            shift(rt.alloc(), &weak, &by, &Frac::from(1))?,
+            (1, Some((1, 1)), Kind::Weak, (1, 1)),
+        ),
+        (
+            rename(rt.alloc(), &weak, &[1], 2)?,
+            (2, Some((1, 1)), Kind::Weak, (3, 1)),
+        ),
+    ];
+    for (got, want) in cases {
+        assert_eq!(rt; shown(&got), want);
+    }
+    Ok(())
+}
+
+#[test]
+fn trims(rt: HostRuntime) -> Result<(), Fail> {
+    let weak = (1, 2, Kind::Weak, 3);
+    let twice = (2, 4, Kind::Weak, 4);
+    let strict = (1, 2, Kind::Strict, 2);
+    let always = (0, 0, Kind::Weak, 0);
+    let never = (0, 0, Kind::Strict, 0);
+    let cases = [
+        (
+            [weak, always, twice],
+            Some((2, Some((2, 1)), Kind::Weak, (2, 1))),
+        ),
+        (
+            [twice, weak, strict],
+            Some((2, Some((2, 1)), Kind::Strict, (2, 1))),
+        ),
+        (
+            [weak, never, twice],
+            Some((2, Some((0, 1)), Kind::Strict, (0, 1))),
+        ),
+        ([always, always, always], None),
+    ];
+    for (lines, want) in cases {
+        let sys = system(rt.alloc(), &lines)?;
+        assert_eq!(rt; sys.vars(), 2);
+        assert_eq!(rt; sys.rows().first().map(shown), want, "{lines:?}");
+        assert!(rt; sys.rows().len() <= 1);
+    }
+    assert_eq!(rt; ROW_LIMIT, 8192);
+    assert_eq!(rt; steps(rt.alloc(), 8192)?.rows().len(), 1);
+    assert_eq!(rt; steps(rt.alloc(), 8193).err(), Some(Halt::Rows));
+    Ok(())
+}
+
+#[test]
+fn scaled_comparisons(rt: HostRuntime) -> Result<(), Fail> {
+    let one = Frac::from(1);
+    let two = Frac::from(2);
+    let cs = [Frac::from(0), Frac::from(-2)];
+    let ds = [Frac::from(0), Frac::from(-4)];
+    assert_eq!(rt; size(&Frac::from(-2)), two);
+    assert_eq!(rt; lead(&cs), Frac::from(-2));
+    assert_eq!(rt; lead_size(&row(rt.alloc(), &(0, -2, Kind::Weak, 1))?), two);
+    assert_eq!(rt; stricter(Kind::Weak, Kind::Strict), Kind::Strict);
+    assert_eq!(rt; times(&two, &two)?, Frac::from(4));
+    assert!(rt; agree_at(Sense::Opposite, &two, &one, &two, &Frac::from(-4))?);
+    assert!(rt; agree(Sense::Same, &two, &one, &cs, &ds)?);
+    assert!(rt; !agree(Sense::Opposite, &two, &one, &cs, &ds)?);
+    Ok(())
+}
