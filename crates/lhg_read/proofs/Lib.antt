@@ -3,7 +3,6 @@ pub mod BadLines
 pub mod Cuts
 pub mod DigitRuns
 pub mod FirstLines
-pub mod InsideLemmas
 pub mod ListSteps
 pub mod NoText
 pub mod OneValue

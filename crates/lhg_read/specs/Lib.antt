@@ -1,7 +1,6 @@
 pub mod Collect
 pub mod Cut
 pub mod Digits
-pub mod Inside
 pub mod Keep
 pub mod Laws
 pub mod Options

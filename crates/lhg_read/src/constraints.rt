@@ -1,8 +1,7 @@
 // Constraints: sums with operators between, and lists of them.
-ghost use Rattle.std.specs.Prelude.{◌≡◌, ◌&&◌, map, codes};
-ghost use Rattle.lhg_lex.specs.TextTokens.{plain_of};
+ghost use Rattle.std.specs.Prelude.{◌≡◌, ◌&&◌, map, codes, All};
+ghost use Rattle.lhg_lex.specs.TextTokens.{plain_of, IsSpan};
 ghost use Rattle.lhg_read.specs.Cut.{cut};
-ghost use Rattle.lhg_read.specs.Inside.{AreInside};
 ghost use Rattle.lhg_read.specs.Signs as plain;
 ghost use Rattle.lhg_read.specs.Rows.{is_jump, chain_of, constraint_of, list_of};
 ghost use Rattle.lhg_read.specs.Refusals.{IsRead, IsAppended};
@@ -31,7 +30,7 @@ fn push_chain(
     tokens: &[Token],
     rows: &mut Vec<Row<Frac>>,
 ) -> Result<(), Refusal>
-    requires { AreInside lines.now.bytes tokens.now }
+    requires { All (IsSpan lines.now.bytes) tokens.now }
     ensures { let parts = cut plain.is_operator (map (plain_of lines.now.bytes) tokens.now) in IsAppended result rows.old.items rows.new.items (chain_of form vars.now parts.first parts.others) }
 {
     let first = before_operator(tokens);
@@ -73,7 +72,7 @@ fn push_chain(
 
 // Whether the tokens are `keep`, in a switch.
 fn is_keep(lines: &Lines, form: Form, tokens: &[Token]) -> bool
-    requires { AreInside lines.now.bytes tokens.now }
+    requires { All (IsSpan lines.now.bytes) tokens.now }
     ensures { result ≡ (is_jump form && plain.is_one_word (codes "keep") (map (plain_of lines.now.bytes) tokens.now)) }
 {
     match form {
@@ -91,7 +90,7 @@ fn push_constraint(
     tokens: &[Token],
     rows: &mut Vec<Row<Frac>>,
 ) -> Result<(), Refusal>
-    requires { AreInside lines.now.bytes tokens.now }
+    requires { All (IsSpan lines.now.bytes) tokens.now }
     ensures { IsAppended result rows.old.items rows.new.items (constraint_of form vars.now (map (plain_of lines.now.bytes) tokens.now)) }
 {
     if is_keep(lines, form, tokens) {
@@ -109,7 +108,7 @@ pub(crate) fn read_list(
     form: Form,
     tokens: &[Token],
 ) -> Result<Vec<Row<Frac>>, Refusal>
-    requires { AreInside lines.now.bytes tokens.now }
+    requires { All (IsSpan lines.now.bytes) tokens.now }
     ensures { IsRead result (list_of form vars.now (map (plain_of lines.now.bytes) tokens.now)) (λ v. v.items) }
 {
     let mut rows = Vec::new(alloc);

@@ -1,8 +1,7 @@
 // The rows of two sums with an operator between.
-ghost use Rattle.std.specs.Prelude.{◌≡◌, ◌++◌, ◌∷◌, [], length, map, IfOk, Some};
+ghost use Rattle.std.specs.Prelude.{◌≡◌, ◌++◌, ◌∷◌, [], length, map, IfOk, Some, All};
 ghost use Rattle.lhg_math.specs.Number.{neg};
-ghost use Rattle.lhg_lex.specs.TextTokens.{plain_of};
-ghost use Rattle.lhg_read.specs.Inside.{AreInside};
+ghost use Rattle.lhg_lex.specs.TextTokens.{plain_of, IsSpan};
 ghost use Rattle.lhg_read.specs.Term.{width};
 ghost use Rattle.lhg_read.specs.Pair.{opposite_row, rows_by, pair_of};
 ghost use Rattle.lhg_read.specs.Collect.{collected, has_variable, row_from};
@@ -105,8 +104,8 @@ pub(crate) fn push_pair(
     right: &[Token],
     rows: &mut Vec<Row<Frac>>,
 ) -> Result<(), Refusal>
-    requires left { AreInside lines.now.bytes left.now }
-    requires right { AreInside lines.now.bytes right.now }
+    requires left { All (IsSpan lines.now.bytes) left.now }
+    requires right { All (IsSpan lines.now.bytes) right.now }
     ensures { IsAppended result rows.old.items rows.new.items (pair_of form vars.now (map (plain_of lines.now.bytes) left.now) (plain_of [] op.now) (map (plain_of lines.now.bytes) right.now)) }
 {
     let Some(op) = read_operator(op) else {

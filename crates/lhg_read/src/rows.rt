@@ -1,7 +1,6 @@
 // The rows that a line gives.
-ghost use Rattle.std.specs.Prelude.{◌≡◌, ◌≤◌, ◌&&◌, length, map, drop, codes};
-ghost use Rattle.lhg_lex.specs.TextTokens.{plain_of, InOrder};
-ghost use Rattle.lhg_read.specs.Inside.{AreInside};
+ghost use Rattle.std.specs.Prelude.{◌≡◌, ◌≤◌, ◌&&◌, length, map, drop, codes, All};
+ghost use Rattle.lhg_lex.specs.TextTokens.{plain_of, IsSpan};
 ghost use Rattle.lhg_read.specs.Signs as plain;
 ghost use Rattle.lhg_read.specs.Rows.{is_flow, rows_of};
 ghost use Rattle.lhg_read.specs.Refusals.{IsRead, IsReadAt};
@@ -19,7 +18,7 @@ use std::alloc::Global;
 
 // Whether the tokens are `still`, in a flow line.
 fn is_still(lines: &Lines, form: Form, tokens: &[Token]) -> bool
-    requires { AreInside lines.now.bytes tokens.now }
+    requires { All (IsSpan lines.now.bytes) tokens.now }
     ensures { result ≡ (is_flow form && plain.is_one_word (codes "still") (map (plain_of lines.now.bytes) tokens.now)) }
 {
     match form {
@@ -36,7 +35,7 @@ pub(crate) fn rows_from(
     form: Form,
     tokens: &[Token],
 ) -> Result<Vec<Row<Frac>>, Refusal>
-    requires { AreInside lines.now.bytes tokens.now }
+    requires { All (IsSpan lines.now.bytes) tokens.now }
     ensures { IsRead result (rows_of form vars.now (map (plain_of lines.now.bytes) tokens.now)) (λ v. v.items) }
 {
     if is_one_word(lines, tokens, b"all") {
@@ -58,7 +57,7 @@ pub fn read_rows(
     vars: &[Name],
     form: Form,
 ) -> Result<Vec<Row<Frac>>, ReadStop>
-    requires here { InOrder 0 line.now.tokens.items (length lines.now.bytes) }
+    requires here { All (IsSpan lines.now.bytes) line.now.tokens.items }
     requires at { at ≤ length line.now.tokens.items }
     ensures { IsReadAt result line.now.number (rows_of form vars.now (map (plain_of lines.now.bytes) (drop at line.now.tokens.items))) (λ v. v.items) }
 {

@@ -1,7 +1,6 @@
 // Tests of single tokens.
-ghost use Rattle.std.specs.Prelude.{◌≡◌, [], ◌∷◌, ◌≤◌, length, map};
-ghost use Rattle.lhg_lex.specs.TextTokens.{plain_of};
-ghost use Rattle.lhg_read.specs.Inside.{AreInside};
+ghost use Rattle.std.specs.Prelude.{◌≡◌, [], ◌∷◌, ◌≤◌, length, map, All};
+ghost use Rattle.lhg_lex.specs.TextTokens.{plain_of, IsSpan};
 ghost use Rattle.lhg_read.specs.Signs as plain;
 
 use lhg_lex::{Lines, Tok, Token};
@@ -51,7 +50,7 @@ pub(crate) fn is_word(lines: &Lines, token: &Token, word: &[u8]) -> bool
 
 /// Whether the tokens are this one word.
 pub(crate) fn is_one_word(lines: &Lines, tokens: &[Token], word: &[u8]) -> bool
-    requires { AreInside lines.now.bytes tokens.now }
+    requires { All (IsSpan lines.now.bytes) tokens.now }
     ensures { result ≡ plain.is_one_word word.now (map (plain_of lines.now.bytes) tokens.now) }
 {
     match tokens {

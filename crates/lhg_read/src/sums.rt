@@ -1,7 +1,6 @@
 // Sums, term by term.
-ghost use Rattle.std.specs.Prelude.{◌≡◌, [], length, map, IfOk};
-ghost use Rattle.lhg_lex.specs.TextTokens.{plain_of};
-ghost use Rattle.lhg_read.specs.Inside.{AreInside};
+ghost use Rattle.std.specs.Prelude.{◌≡◌, [], length, map, IfOk, All};
+ghost use Rattle.lhg_lex.specs.TextTokens.{plain_of, IsSpan};
 ghost use Rattle.lhg_read.specs.Term.{width, IsBelow};
 ghost use Rattle.lhg_read.specs.Sum.{opposite, signed, begins_with_minus, sum_of};
 ghost use Rattle.lhg_read.specs.Collect.{none_of, with_term, with_turned, collected, Takes};
@@ -90,7 +89,7 @@ pub(crate) fn put_terms(
     turned: bool,
     sum: &mut Sum,
 ) -> bool
-    requires inside { AreInside lines.now.bytes tokens.now }
+    requires inside { All (IsSpan lines.now.bytes) tokens.now }
     requires wide { length sum.old.coefs.items ≡ width form vars.now }
     ensures put { Takes result (collected sum.new) (with_turned turned (collected sum.old) (sum_of form vars.now (map (plain_of lines.now.bytes) tokens.now))) }
     ensures wide { length sum.new.coefs.items ≡ width form vars.now }

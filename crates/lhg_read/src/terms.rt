@@ -1,8 +1,7 @@
 // Variables and terms.
 ghost use Rattle.std.specs.Prelude.{◌≡◌, ◌<◌, ◌≤◌, length, map, All, IfSome, [], ◌∷◌};
 ghost use Rattle.std.specs.Option.{option_map};
-ghost use Rattle.lhg_lex.specs.TextTokens.{plain_of};
-ghost use Rattle.lhg_read.specs.Inside.{AreInside};
+ghost use Rattle.lhg_lex.specs.TextTokens.{plain_of, IsSpan};
 ghost use Rattle.lhg_read.specs.Term.{width, place_of, new_place, variable_of, times, term_of, IsBelow};
 ghost use Rattle.lhg_lex.specs.PlainToken.{number};
 
@@ -59,7 +58,7 @@ fn word_place(lines: &Lines, vars: &[Name], token: &Token) -> Option<usize>
 }
 
 fn read_variable(lines: &Lines, vars: &[Name], form: Form, tokens: &[Token]) -> Option<usize>
-    requires { AreInside lines.now.bytes tokens.now }
+    requires { All (IsSpan lines.now.bytes) tokens.now }
     ensures place { result ≡ variable_of form vars.now (map (plain_of lines.now.bytes) tokens.now) }
     ensures below { IfSome result (λ i. i < width form vars.now) }
 {
@@ -84,7 +83,7 @@ fn times(q: Frac, place: Option<usize>) -> Option<Term>
 
 // The term that begins with a number.
 fn number_term(lines: &Lines, vars: &[Name], form: Form, q: Frac, rest: &[Token]) -> Option<Term>
-    requires { AreInside lines.now.bytes rest.now }
+    requires { All (IsSpan lines.now.bytes) rest.now }
     ensures term { result ≡ term_of form vars.now (number q ∷ map (plain_of lines.now.bytes) rest.now) }
     ensures below { IfSome result (IsBelow (width form vars.now)) }
 {
@@ -99,7 +98,7 @@ fn number_term(lines: &Lines, vars: &[Name], form: Form, q: Frac, rest: &[Token]
 
 /// The term that the tokens are.
 pub(crate) fn read_term(lines: &Lines, vars: &[Name], form: Form, tokens: &[Token]) -> Option<Term>
-    requires { AreInside lines.now.bytes tokens.now }
+    requires { All (IsSpan lines.now.bytes) tokens.now }
     ensures term { result ≡ term_of form vars.now (map (plain_of lines.now.bytes) tokens.now) }
     ensures below { IfSome result (IsBelow (width form vars.now)) }
 {
