@@ -1,11 +1,12 @@
 // The combinations of the other rows with two rows that are an equation.
-ghost use Rattle.std.specs.Prelude.{◌≡◌, ◌<◌, ◌++◌, ◌∷◌, [], length, map};
+ghost use Rattle.std.specs.Prelude.{◌≡◌, ◌<◌, ◌∷◌, [], length};
 ghost use Rattle.lhg_num.specs.Marked.{valued};
 ghost use Rattle.lhg_num.specs.Halting.{IsHaltedByWide};
 ghost use Rattle.lhg_row.specs.Column.{drop_column};
 ghost use Rattle.lhg_row.specs.Width.{HasVariable, AllWide};
 ghost use Rattle.lhg_row.specs.Combine as combine;
 ghost use Rattle.lhg_row.specs.Eliminate as calculus;
+ghost use Rattle.lhg_elim.specs.Pushed.{pushed};
 
 use crate::narrowing::combined;
 use crate::sides::{is_level, same_side};
@@ -26,7 +27,7 @@ pub fn push_beside<N: Scalar>(
     requires wide { HasVariable k rows.now }
     requires in_order { i < j }
     requires in_list { j < length rows.now }
-    ensures { IsHaltedByWide result (valued (λ cs. out.old.items ++ map (drop_column k) cs) (calculus.with_pair N.arithmetic k (calculus.row_at rows.now i) (calculus.row_at rows.now j) (calculus.beside rows.now i j))) (λ _. out.new.items) }
+    ensures { IsHaltedByWide result (pushed k out.old.items (calculus.with_pair N.arithmetic k (calculus.row_at rows.now i) (calculus.row_at rows.now j) (calculus.beside rows.now i j))) (λ _. out.new.items) }
 {
     let one = &rows[i];
     let other = &rows[j];
@@ -48,7 +49,7 @@ fn push_partners<N: Scalar>(
     requires there { k < length one.now.coefs }
     requires same { length one.now.coefs ≡ length other.now.coefs }
     requires wide { AllWide (length one.now.coefs) rows.now }
-    ensures { IsHaltedByWide result (valued (λ cs. out.old.items ++ map (drop_column k) cs) (calculus.with_pair N.arithmetic k one.now other.now rows.now)) (λ _. out.new.items) }
+    ensures { IsHaltedByWide result (pushed k out.old.items (calculus.with_pair N.arithmetic k one.now other.now rows.now)) (λ _. out.new.items) }
 {
     for row in rows {
         push_partner(alloc, out, row, one, other, k)?;
@@ -68,7 +69,7 @@ fn push_partner<N: Scalar>(
     requires there { k < length row.now.coefs }
     requires first { length row.now.coefs ≡ length one.now.coefs }
     requires second { length row.now.coefs ≡ length other.now.coefs }
-    ensures { IsHaltedByWide result (valued (λ cs. out.old.items ++ map (drop_column k) cs) (calculus.with_pair N.arithmetic k one.now other.now (row.now ∷ []))) (λ _. out.new.items) }
+    ensures { IsHaltedByWide result (pushed k out.old.items (calculus.with_pair N.arithmetic k one.now other.now (row.now ∷ []))) (λ _. out.new.items) }
 {
     if !is_level(row, k) {
         let both = with_partner(alloc, row, one, other, k)?;

@@ -1,11 +1,12 @@
 // The combinations of each upper with each lower row.
-ghost use Rattle.std.specs.Prelude.{◌≡◌, ◌<◌, ◌++◌, ◌∷◌, [], length, map, filter};
-ghost use Rattle.lhg_num.specs.Marked.{and_then, valued};
+ghost use Rattle.std.specs.Prelude.{◌≡◌, ◌<◌, ◌∷◌, [], length, filter, None};
+ghost use Rattle.lhg_num.specs.Marked.{and_then};
 ghost use Rattle.lhg_num.specs.Halting.{IsHaltedByWide, IsHaltedByRows};
-ghost use Rattle.lhg_row.specs.Column.{upper_at, drop_column};
+ghost use Rattle.lhg_row.specs.Column.{upper_at};
 ghost use Rattle.lhg_row.specs.Width.{HasVariable, AllWide};
 ghost use Rattle.lhg_row.specs.Trim.{counted};
 ghost use Rattle.lhg_row.specs.Eliminate as calculus;
+ghost use Rattle.lhg_elim.specs.Pushed.{pushed};
 
 use crate::narrowing::combined;
 use crate::sides::{is_lower, is_upper};
@@ -22,7 +23,7 @@ pub fn push_sides<N: Scalar>(
     k: usize,
 ) -> Result<(), Halt>
     requires { HasVariable k rows.now }
-    ensures { IsHaltedByRows result (and_then (valued (λ cs. out.old.items ++ map (drop_column k) cs) (calculus.each_joined (calculus.with_lowers N.arithmetic k rows.now) (filter (upper_at k) rows.now))) counted) (λ _. out.new.items) }
+    ensures { IsHaltedByRows result (and_then (pushed k out.old.items (calculus.combinations N.arithmetic k rows.now None)) counted) (λ _. out.new.items) }
 {
     for row in rows {
         push_upper(alloc, out, rows, row, k)?;
@@ -43,7 +44,7 @@ fn push_upper<N: Scalar>(
 ) -> Result<(), Halt>
     requires there { k < length row.now.coefs }
     requires wide { AllWide (length row.now.coefs) rows.now }
-    ensures { IsHaltedByWide result (valued (λ cs. out.old.items ++ map (drop_column k) cs) (calculus.each_joined (calculus.with_lowers N.arithmetic k rows.now) (filter (upper_at k) (row.now ∷ [])))) (λ _. out.new.items) }
+    ensures { IsHaltedByWide result (pushed k out.old.items (calculus.each_joined (calculus.with_lowers N.arithmetic k rows.now) (filter (upper_at k) (row.now ∷ [])))) (λ _. out.new.items) }
 {
     if is_upper(row, k) {
         push_lowers(alloc, out, rows, row, k)?;
@@ -61,7 +62,7 @@ fn push_lowers<N: Scalar>(
 ) -> Result<(), Halt>
     requires there { k < length upper.now.coefs }
     requires wide { AllWide (length upper.now.coefs) rows.now }
-    ensures { IsHaltedByWide result (valued (λ cs. out.old.items ++ map (drop_column k) cs) (calculus.with_lowers N.arithmetic k rows.now upper.now)) (λ _. out.new.items) }
+    ensures { IsHaltedByWide result (pushed k out.old.items (calculus.with_lowers N.arithmetic k rows.now upper.now)) (λ _. out.new.items) }
 {
     for row in rows {
         push_lower(alloc, out, upper, row, k)?;
@@ -79,7 +80,7 @@ fn push_lower<N: Scalar>(
 ) -> Result<(), Halt>
     requires same { length upper.now.coefs ≡ length row.now.coefs }
     requires there { k < length upper.now.coefs }
-    ensures { IsHaltedByWide result (valued (λ cs. out.old.items ++ map (drop_column k) cs) (calculus.with_lowers N.arithmetic k (row.now ∷ []) upper.now)) (λ _. out.new.items) }
+    ensures { IsHaltedByWide result (pushed k out.old.items (calculus.with_lowers N.arithmetic k (row.now ∷ []) upper.now)) (λ _. out.new.items) }
 {
     if is_lower(row, k) {
         let both = combined(alloc, upper, row, k)?;
