@@ -8,6 +8,8 @@ mod making;
 mod meeting;
 mod polys;
 mod projecting;
+#[cfg(test)]
+mod tests;
 
 pub use copies::{copy_row, copy_rows};
 pub use entailing::{entails, includes};

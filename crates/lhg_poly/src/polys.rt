@@ -57,7 +57,8 @@ impl<N: Scalar> Poly<N> {
 
     /// A copy.
     pub fn copy(&self, alloc: Global) -> Result<Poly<N>, Halt>
-        ensures { IsHaltedByMemory result (done self.now) (λ p. p) }
+        ensures copy { IsHaltedByMemory result (done self.now) (λ p. p) }
+        ensures poly { IsPoly self.now.width self.now.lines }
     {
         let rows = copy_rows(alloc, self.system.rows())?;
         Ok(Poly::of(self.system.vars(), rows))
