@@ -43,6 +43,14 @@ pub fn rows_entail<N: Scalar>(
 {
     let negation = negate(alloc, row)?;
     rows.push(negation)?;
+    have_no_point(alloc, vars, rows)
+}
+
+/// Whether the rows have no common point.
+pub fn have_no_point<N: Scalar>(alloc: Global, vars: usize, rows: Vec<Row<N>>) -> Result<bool, Halt>
+    requires { AllWide vars rows.items }
+    ensures { IsHaltedByRows result (calculus.are_empty N.arithmetic vars rows.items) (λ b. b) }
+{
     let system = trim(alloc, vars, rows)?;
     is_empty(alloc, &system)
 }

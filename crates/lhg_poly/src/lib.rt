@@ -14,6 +14,6 @@ mod tests;
 pub use copies::{copy_row, copy_rows};
 pub use entailing::{entails, includes};
 pub use making::make;
-pub use meeting::{closure, meet};
+pub use meeting::{are_apart, closure, meet};
 pub use polys::Poly;
 pub use projecting::project;

@@ -1,12 +1,15 @@
 // The common points of two pieces, and the closure of a piece.
-ghost use Rattle.std.specs.Prelude.{◌≡◌, map, option_map, Some, IfOk, IfSome};
+ghost use Rattle.std.specs.Prelude.{◌≡◌, ◌++◌, map, option_map, Some, IfOk, IfSome};
 ghost use Rattle.lhg_num.specs.Marked.{done};
 ghost use Rattle.lhg_num.specs.Halting.{IsHaltedByMemory, IsHaltedByRows};
 ghost use Rattle.lhg_row.specs.Row.{relaxed};
+ghost use Rattle.lhg_row.specs.Width.{AllWide};
+ghost use Rattle.lhg_row.specs.HasValue.{IsEmptiness};
 ghost use Rattle.lhg_row.specs.PieceFacts.{IsMeet, IsClosureOf};
 ghost use Rattle.lhg_row.specs.Pieces as calculus;
 
 use crate::copies::{append_rows, copy_rows};
+use crate::entailing::have_no_point;
 use crate::making::make;
 use crate::polys::Poly;
 use lhg_num::{Halt, Scalar};
@@ -20,9 +23,18 @@ pub fn meet<N: Scalar>(alloc: Global, p: &Poly<N>, q: &Poly<N>) -> Result<Option
     ensures vars { IfOk result (λ o. IfSome o (λ m. m.width ≡ p.now.width)) }
     ensures points { IfOk result (λ o. IsMeet p.now.width p.now.lines q.now.lines (option_map (λ m. m.lines) o)) }
 {
-    let mut rows = copy_rows(alloc, p.rows())?;
-    append_rows(alloc, &mut rows, q.rows())?;
+    let rows = rows_of_both(alloc, p, q)?;
     make(alloc, p.vars(), rows)
+}
+
+/// Whether two pieces have no common point.
+pub fn are_apart<N: Scalar>(alloc: Global, p: &Poly<N>, q: &Poly<N>) -> Result<bool, Halt>
+    requires { p.now.width ≡ q.now.width }
+    ensures calculus { IsHaltedByRows result (calculus.are_empty N.arithmetic p.now.width (p.now.lines ++ q.now.lines)) (λ b. b) }
+    ensures points { IfOk result (IsEmptiness p.now.width (p.now.lines ++ q.now.lines)) }
+{
+    let rows = rows_of_both(alloc, p, q)?;
+    have_no_point(alloc, p.vars(), rows)
 }
 
 /// The points at which all relaxed rows hold.
@@ -36,6 +48,19 @@ pub fn closure<N: Scalar>(alloc: Global, p: &Poly<N>) -> Result<Poly<N>, Halt>
         Some(piece) => Ok(piece),
         None => unreachable!(),
     }
+}
+
+// The rows of one piece and then those of another.
+fn rows_of_both<N: Scalar>(alloc: Global, p: &Poly<N>, q: &Poly<N>) -> Result<Vec<Row<N>>, Halt>
+    requires { p.now.width ≡ q.now.width }
+    ensures rows { IsHaltedByMemory result (done (p.now.lines ++ q.now.lines)) (λ v. v.items) }
+    ensures wide { AllWide p.now.width (p.now.lines ++ q.now.lines) }
+{
+    let first = p.rows();
+    let second = q.rows();
+    let mut rows = copy_rows(alloc, first)?;
+    append_rows(alloc, &mut rows, second)?;
+    Ok(rows)
 }
 
 // The rows, each made weak.

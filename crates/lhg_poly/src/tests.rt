@@ -2,7 +2,9 @@
 ghost use Rattle.std.specs.Prelude.{◌≡◌, IfOk, IfSome, length};
 ghost use Rattle.lhg_row.specs.Width.{AllWide};
 
-use crate::{Poly, closure, copy_row, copy_rows, entails, includes, make, meet, project};
+use crate::{
+    Poly, are_apart, closure, copy_row, copy_rows, entails, includes, make, meet, project,
+};
 use lhg_num::{Frac, Halt};
 use lhg_row::{Kind, Point, Row, trim};
 use std::alloc::Global;
@@ -121,6 +123,8 @@ fn meets_and_closes(rt: HostRuntime) -> Result<(), Fail> {
     assert!(rt; are(closure(alloc, &both)?.rows(), &[FROM_2, UP_TO_3]));
     let apart = piece(alloc, &[(-1, Kind::Strict, -3)])?.ok_or("none")?;
     assert!(rt; meet(alloc, &low, &apart)?.is_none());
+    assert_eq!(rt; are_apart(alloc, &low, &apart)?, true);
+    assert_eq!(rt; are_apart(alloc, &low, &high)?, false);
     Ok(())
 }
 

@@ -1,5 +1,5 @@
 -- Why has the piece of a list of rows exactly the points of the list?
-use Rattle.std.specs.Prelude.{◌≡◌, ℕ, zero, suc, ◌<◌, ◌≤◌, Bool, true, false, ◌&&◌, [], ◌∷◌, length, remove}
+use Rattle.std.specs.Prelude.{◌≡◌, ℕ, zero, suc, ◌<◌, ◌≤◌, Bool, true, false, ◌&&◌, [], ◌∷◌, length, remove, Some, None}
 use Rattle.std.proofs.Common.{refl, sym, ap, ◌∙◌, arith, subst, inl, inr}
 use Rattle.std.proofs.Math.Bool.{and_comm, and_assoc}
 use Rattle.std.proofs.lemmas.List.Edits.{length-remove}
@@ -15,7 +15,7 @@ use Rattle.lhg_row.specs.TrimLaws.{trim-holds}
 use Rattle.lhg_row.specs.WidthLaws.{trim-wide, trim-tidy}
 use Rattle.lhg_row.specs.Eliminate.{row_at, is_empty}
 use Rattle.lhg_row.specs.EmptyLaws.{is_empty-exact}
-use Rattle.lhg_row.specs.Pieces.{entails, thin_at, thin, made, make}
+use Rattle.lhg_row.specs.Pieces.{are_empty, entails, thin_at, thin, made, make}
 use Rattle.lhg_row.specs.PieceFacts.{IsEntailment, IsMade}
 use Rattle.lhg_row.specs.EntailLaws.{entails-exact}
 
@@ -135,3 +135,14 @@ make-exact a n rows laws w =
             };
           };
         }
+
+-- rows without a point make no piece
+pub make-empty : (a : Arithmetic) (n : ℕ) (rows : PlainPiece) → (are_empty a n rows).value ≡ true → (make a n rows).value ≡ None
+unfolding make
+make-empty a n rows e = ap (λ b. (made a n (trim a rows).value b).value) e
+
+-- rows with a point make one
+pub make-thin : (a : Arithmetic) (n : ℕ) (rows : PlainPiece) → (are_empty a n rows).value ≡ false
+    → (make a n rows).value ≡ Some (thin a n (length (trim a rows).value) (trim a rows).value).value
+unfolding make
+make-thin a n rows e = ap (λ b. (made a n (trim a rows).value b).value) e

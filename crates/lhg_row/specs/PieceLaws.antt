@@ -7,8 +7,8 @@ use Rattle.lhg_row.specs.Row.{PlainRow, PlainPoint}
 use Rattle.lhg_row.specs.Piece.{PlainPiece, InPiece, in_piece, InClosure, in_some}
 use Rattle.lhg_row.specs.Segment.{along}
 use Rattle.lhg_row.specs.Width.{AllWide}
-use Rattle.lhg_row.specs.HasValue.{HasPoint}
-use Rattle.lhg_row.specs.Pieces.{entails, make, meet, closure, includes, project}
+use Rattle.lhg_row.specs.HasValue.{HasPoint, IsEmptiness}
+use Rattle.lhg_row.specs.Pieces.{are_empty, entails, make, meet, closure, includes, project}
 use Rattle.lhg_row.specs.Sample.{sample}
 use Rattle.lhg_row.specs.Truths.{piece_truth, some_truth}
 use Rattle.lhg_row.specs.Lists.{minus, covered, meet_lists}
@@ -16,6 +16,7 @@ use Rattle.lhg_row.specs.PieceFacts.{IsPointOf, AllOver, AllPolys, IsEntailment,
 
 -- what is made of rows and of one or two pieces, for every lawful type
 pub record PieceLaws : Type 0 where
+  pub are_empty : (a : Arithmetic) (n : ℕ) (rows : PlainPiece) → IsLawful a → AllWide n rows → IsEmptiness n rows (are_empty a n rows).value
   pub entails : (a : Arithmetic) (n : ℕ) (rows : PlainPiece) (r : PlainRow) → IsLawful a → AllWide n rows → length r.coefs ≡ n
       → IsEntailment n rows r (entails a n rows r).value
   pub make : (a : Arithmetic) (n : ℕ) (rows : PlainPiece) → IsLawful a → AllWide n rows → IsMade n rows (make a n rows).value

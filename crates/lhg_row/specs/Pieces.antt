@@ -9,9 +9,13 @@ use Rattle.lhg_row.specs.MarkedTests.{marked_all}
 use Rattle.lhg_row.specs.Trim.{trim}
 use Rattle.lhg_row.specs.Eliminate.{row_at, eliminate, is_empty}
 
+-- whether rows over n variables have no point
+abbrev pub are_empty : Arithmetic → ℕ → PlainPiece → Marked Bool
+are_empty a n rows = and_then (trim a rows) (is_empty a n)
+
 -- whether the rows over n variables entail the row r: they have no point at which r fails
 abbrev pub entails : Arithmetic → ℕ → PlainPiece → PlainRow → Marked Bool
-entails a n rows r = and_then (trim a (rows ++ negated r ∷ [])) (is_empty a n)
+entails a n rows r = are_empty a n (rows ++ negated r ∷ [])
 
 -- ---- make
 -- the list without its row i, where the others entail it

@@ -1,4 +1,4 @@
-use Rattle.lhg_row.specs.EntailLaws.{entails-exact}
+use Rattle.lhg_row.specs.EntailLaws.{are_empty-exact, entails-exact}
 use Rattle.lhg_row.specs.MakeLaws.{make-exact}
 use Rattle.lhg_row.specs.MeetLaws.{meet-exact, closure-exact, includes-exact}
 use Rattle.lhg_row.specs.ProjectLaws.{project-exact}
@@ -6,6 +6,7 @@ use Rattle.lhg_poly.proofs.laws.law_pieces.Goals as goal
 
 pub returns : goal.returns
 returns c = record {
+  are_empty = are_empty-exact;
   entails = entails-exact;
   make = make-exact;
   meet = meet-exact;
