@@ -3,6 +3,7 @@ pub mod ContentFronts
 pub mod FirstBadProofs
 pub mod FirstRun
 pub mod Fronts
+pub mod LineCounts
 pub mod LineLawProofs
 pub mod LineReadings
 pub mod LiteralLemmas

@@ -91,6 +91,8 @@ impl<'a> Lines<'a> {
     /// The next line that has a token, with its number and its tokens. A token error, or want of memory, leaves the
     /// lines where they were.
     pub fn next(&mut self, alloc: Global) -> Result<Option<Line>, ReadStop>
+        // the lines that are read are lines of the text
+        ensures within { self.old.read ≤ length (lines_of self.old.bytes) }
         // the next line that is not blank, and its tokens
         ensures line { IfOk result (λ o. IfSome o (λ line. IsTokenLine self.old line)) }
         ensures read { IfOk result (λ o. IfSome o (λ line. self.new ≡ record self.old { read = line.number })) }
@@ -109,7 +111,8 @@ impl<'a> Lines<'a> {
 
     /// How many lines are read, blank ones included.
     pub fn lines_read(&self) -> u32
-        ensures { result ≡ self.now.read }
+        ensures count { result ≡ self.now.read }
+        ensures few { result ≤ TEXT_LIMIT }
     {
         self.read
     }

@@ -1,10 +1,18 @@
+pub mod Begun
 pub mod Collect
 pub mod Cut
 pub mod Digits
+pub mod DraftView
+pub mod HeadTest
 pub mod Keep
 pub mod Laws
+pub mod Lexed
+pub mod Names
 pub mod Options
 pub mod Pair
+pub mod PlantLine
+pub mod PlantSteps
+pub mod PlantText
 pub mod Refusals
 pub mod Refused
 pub mod Rows
@@ -14,3 +22,4 @@ pub mod SmallText
 pub mod SmallValue
 pub mod Sum
 pub mod Term
+pub mod TokenText

@@ -1,0 +1,193 @@
+-- A plant is read line by line: what holds between two lines, and at each end.
+use Rattle.std.proofs.Common.{◌≡◌, ◌<◌, ◌≤◌, ◌+◌, ◌-◌, ◌⊎◌, inl, inr, ℕ, List, [], ◌∷◌, ◌++◌, length, drop, map, refl, sym, ap, ◌∙◌, subst, Bool, true, false, Option, Some, None, Result, Ok, Err, arith, append_assoc, length-append, vec_len}
+use Rattle.std.specs.List.{All}
+use Rattle.std.proofs.lemmas.List.{length-map, length-drop}
+use Rattle.lhg_lex.specs.Lines.{lines_of}
+use Rattle.lhg_lex.specs.PlainToken.{PlainToken}
+use Rattle.lhg_lex.specs.LineTokens.{Spot, tokens_of, IsBlankLine}
+use Rattle.lhg_lex.specs.TextTokens.{plain_of}
+use Rattle.lhg_lex.specs.Reading.{Reading, left_of, IsTokenLine}
+use Rattle.lhg_lex.specs.declared.stops.ReadStop.{ReadStop}
+use Rattle.lhg_lex.specs.declared.stops.ReadStop.TheVariants.{Bad, Memory}
+use Rattle.lhg_lex.specs.declared.stops.What.TheVariants.{NotHere}
+use Rattle.lhg_lex.specs.declared.tokens.Line.{Line}
+use Rattle.lhg_lex.specs.declared.tokens.Token.{Token}
+use Rattle.lhg_read.specs.Names.{vars_of}
+use Rattle.lhg_read.specs.PlantText.{said_in, IsHead, IsPlant, IsSomePlant}
+use Rattle.lhg_read.specs.PlantSteps.{PlainDraft, empty_draft, taken, all_taken, plant_with}
+use Rattle.lhg_read.specs.Begun.{IsBegun}
+use Rattle.lhg_read.specs.HeadTest.{head_test}
+use Rattle.lhg_read.specs.Lexed.{IsLexed}
+use Rattle.lhg_read.specs.Refusals.{stop_at, IsRefused}
+use Rattle.lhg_read.specs.TokenText.{token_lines, IsTextBy, IsReadTo, ReadsText, HasCause, IsFirstFault, IsNoLine}
+use Rattle.lhg_read.specs.declared.refusal.Refusal.{Refusal}
+use Rattle.lhg_read.specs.declared.refusal.Refusal.TheVariants as refusal
+use Rattle.lhg_read.proofs.HeadLines.{head_true, head_false}
+use Rattle.lhg_read.proofs.LexedLines.{line_lexed}
+use Rattle.lhg_read.proofs.PlantTexts.{plant_of_begun}
+use Rattle.lhg_read.proofs.PlantRefusals.{no_head, no_vars, no_line, none_at_start, none_at_head, none_yet}
+use Rattle.lhg_read.proofs.PlantContinues.{from_nothing, from_head, from_begun, begun_more, begun_few}
+use Rattle.lhg_read.proofs.TokenTexts.{Reads, EndsFull, NoneYet, CanGoOn, reads_nothing, reads_more, refused_line, faulty_line, missing_line}
+
+-- a text of plants
+abbrev pub IsAnyPlant : List (List ℕ) → Type 0
+IsAnyPlant lines = IsTextBy IsSomePlant lines
+
+-- ---- no line comes
+
+-- where no line comes, that is the first fault
+pub no_line_cause : (Is : List (List Spot) → Type 0) (old s : Reading) (tokens : List (List Spot)) → Reads old s tokens → CanGoOn Is tokens → NoneYet Is tokens → (stop : ReadStop) → IsNoLine s stop → HasCause (IsTextBy Is) old stop
+no_line_cause Is old s tokens r can none Memory h = tt
+no_line_cause Is old s tokens r can none (Bad line column what) (inl h) = faulty_line Is old s tokens r can none line column what h
+no_line_cause Is old s tokens r can none (Bad line column what) (inr h) =
+    subst (λ k. IsFirstFault (IsTextBy Is) old k column what) (sym h.2)
+    (subst (λ w. IsFirstFault (IsTextBy Is) old (length (lines_of s.bytes) + 1) column w) (sym h.4)
+    (subst (λ c. IsFirstFault (IsTextBy Is) old (length (lines_of s.bytes) + 1) c NotHere) (sym h.3)
+    (missing_line Is old s tokens r can none (length (lines_of s.bytes)) h.0 refl h.1)))
+
+-- a line that is refused
+pub refused_cause : (Is : List (List Spot) → Type 0) (old s : Reading) (tokens : List (List Spot)) → Reads old s tokens → CanGoOn Is tokens → NoneYet Is tokens → (line : Line) (h : IsTokenLine s line) → {A : Type 0} (r : Refusal) (o : Option A)
+    → (o ≡ None → (more : List (List Spot)) → ¬ Is (tokens ++ h.spots ∷ more)) → IsRefused r o → HasCause (IsTextBy Is) old (stop_at r line.number)
+refused_cause Is old s tokens r can none line h refusal.NotHere o bad k = refused_line Is old s tokens r can none line h (bad k)
+refused_cause Is old s tokens r can none line h refusal.Memory o bad k = tt
+
+-- ---- what the tokens of a line say
+
+-- in the text, and by themselves
+pub said_is : (s : Reading) (line : Line) (h : IsTokenLine s line) → map (plain_of s.bytes) line.tokens.items ≡ said_in h.spots
+said_is s line h = ap (λ l. l.tokens) h.says
+
+-- ---- fewer lines are left
+
+-- the number of lines that are left falls
+pub left_falls : (s : Reading) (line : Line) (new : Reading) → IsTokenLine s line → new ≡ record s { read = line.number } → length (left_of new) < length (left_of s)
+left_falls s line new h e =
+    let a = length-drop s.read (lines_of s.bytes) in
+    let b : length (left_of new) ≡ length (lines_of s.bytes) - line.number = ap (λ x. length (left_of x)) e ∙ length-drop line.number (lines_of s.bytes) in
+    let c = h.counted in
+    let d = h.next.count in
+    let f = h.next.within in
+    omega (arith, a, b, c, d, f)
+
+-- ---- between two lines
+
+-- the head is read
+pub record AfterHead (old s : Reading) : Type 0 where
+  pub spots : List Spot
+  pub reads : Reads old s (spots ∷ [])
+  pub head : IsHead spots
+
+-- the beginning of a plant is read
+abbrev pub Between : Reading → Reading → List (List ℕ) → PlainDraft → Type 0
+Between old s vars d = (tokens : List (List Spot)) × Reads old s tokens × IsBegun tokens vars d
+
+same_bytes : (s new : Reading) (n : ℕ) → new ≡ record s { read = n } → new.bytes ≡ s.bytes
+same_bytes s new n e = ap (λ (x : Reading). x.bytes) e
+
+-- what the tokens of a line say, in the text behind it
+pub said_after : (s : Reading) (line : Line) (new : Reading) (h : IsTokenLine s line) → new ≡ record s { read = line.number } → (tokens : List Token) → tokens ≡ line.tokens.items → map (plain_of new.bytes) tokens ≡ said_in h.spots
+said_after s line new h e tokens f = ap (λ b. map (plain_of b) tokens) (same_bytes s new line.number e) ∙ ap (map (plain_of s.bytes)) f ∙ said_is s line h
+
+-- the words are words there too
+pub lexed_after : (s : Reading) (line : Line) (new : Reading) (h : IsTokenLine s line) → new ≡ record s { read = line.number } → (tokens : List Token) → tokens ≡ line.tokens.items → All (λ token. IsLexed (plain_of new.bytes token)) tokens
+lexed_after s line new h e tokens f =
+    subst (λ b. All (λ token. IsLexed (plain_of b token)) tokens) (sym (same_bytes s new line.number e))
+    (subst (λ ts. All (λ token. IsLexed (plain_of s.bytes token)) ts) (sym f) (line_lexed s line h))
+
+-- no line at the beginning
+pub nothing_comes : (s : Reading) (stop : ReadStop) → IsNoLine s stop → HasCause IsAnyPlant s stop
+nothing_comes s stop h = no_line_cause IsSomePlant s s [] (reads_nothing s) from_nothing none_at_start stop h
+
+-- another first line
+pub not_head : (s : Reading) (line : Line) (new : Reading) (h : IsTokenLine s line) → new ≡ record s { read = line.number } → (tokens : List Token) → tokens ≡ line.tokens.items → head_test new.bytes tokens ≡ false
+    → HasCause IsAnyPlant s (stop_at refusal.NotHere line.number)
+not_head s line new h e tokens f k =
+    let test : head_test s.bytes line.tokens.items ≡ false = ap (λ b. head_test b line.tokens.items) (sym (same_bytes s new line.number e)) ∙ ap (head_test new.bytes) (sym f) ∙ k in
+    refused_line IsSomePlant s s [] (reads_nothing s) from_nothing none_at_start line h (λ more p. no_head h.spots more p.0 (head_false s line h test) p.1)
+
+-- the head
+pub after_head : (s : Reading) (line : Line) (new : Reading) (h : IsTokenLine s line) → new ≡ record s { read = line.number } → (tokens : List Token) → tokens ≡ line.tokens.items → head_test new.bytes tokens ≡ true → AfterHead s new
+after_head s line new h e tokens f k =
+    let test : head_test s.bytes line.tokens.items ≡ true = ap (λ b. head_test b line.tokens.items) (sym (same_bytes s new line.number e)) ∙ ap (head_test new.bytes) (sym f) ∙ k in
+    record { spots = h.spots; reads = reads_more s s [] line new (reads_nothing s) h e; head = head_true s line h test }
+
+module _ (old s : Reading) (a : AfterHead old s) where
+  -- no line behind the head
+  pub head_alone : (stop : ReadStop) → IsNoLine s stop → HasCause IsAnyPlant old stop
+  head_alone stop h = no_line_cause IsSomePlant old s (a.spots ∷ []) a.reads (from_head a.spots a.head) (none_at_head a.spots) stop h
+
+  module _ (line : Line) (new : Reading) (h : IsTokenLine s line) (e : new ≡ record s { read = line.number }) (tokens : List Token) (f : tokens ≡ line.tokens.items) where
+    -- another second line
+    pub not_vars : (r : Refusal) → IsRefused r (vars_of (map (plain_of new.bytes) tokens)) → HasCause IsAnyPlant old (stop_at r line.number)
+    not_vars r k =
+        refused_cause IsSomePlant old s (a.spots ∷ []) a.reads (from_head a.spots a.head) (none_at_head a.spots) line h r (vars_of (map (plain_of new.bytes) tokens))
+        (λ bad more p. no_vars a.spots h.spots more p.0 (ap vars_of (sym (said_after s line new h e tokens f)) ∙ bad) p.1) k
+
+    -- the variables
+    pub after_vars : (vars : List (List ℕ)) (d : PlainDraft) → vars_of (map (plain_of new.bytes) tokens) ≡ Some vars → d ≡ empty_draft → Between old new vars d
+    after_vars vars d k g = (
+      a.spots ∷ h.spots ∷ [],
+      reads_more old s (a.spots ∷ []) line new a.reads h e,
+      record {
+        head = a.spots;
+        names = h.spots;
+        rest = [];
+        lines_are = refl;
+        head_is = a.head;
+        vars_are = ap vars_of (sym (said_after s line new h e tokens f)) ∙ k;
+        taken = ap (λ x. Some x) (sym g);
+      },
+    )
+
+module _ (old s : Reading) (vars : List (List ℕ)) (d : PlainDraft) (b : Between old s vars d) where
+  -- not too many locations are read
+  pub few_locs : length d.locs ≤ 64
+  few_locs = begun_few b.0 vars d b.2
+
+  -- no line before the end
+  pub no_end_comes : d.ended ≡ false → (stop : ReadStop) → IsNoLine s stop → HasCause IsAnyPlant old stop
+  no_end_comes going stop h = no_line_cause IsSomePlant old s b.0 b.1 (from_begun b.0 vars d b.2 going) (none_yet b.0 vars d b.2 going) stop h
+
+  module _ (going : d.ended ≡ false) (line : Line) (new : Reading) (h : IsTokenLine s line) (e : new ≡ record s { read = line.number }) (tokens : List Token) (f : tokens ≡ line.tokens.items) where
+    -- a line that is not taken
+    pub not_taken : (r : Refusal) → IsRefused r (taken vars d (map (plain_of new.bytes) tokens)) → HasCause IsAnyPlant old (stop_at r line.number)
+    not_taken r k =
+        refused_cause IsSomePlant old s b.0 b.1 (from_begun b.0 vars d b.2 going) (none_yet b.0 vars d b.2 going) line h r (taken vars d (map (plain_of new.bytes) tokens))
+        (λ bad more p. no_line b.0 vars d b.2 h.spots more p.0 (ap (taken vars d) (sym (said_after s line new h e tokens f)) ∙ bad) p.1) k
+
+    -- a line that is taken
+    pub one_taken : (x : PlainDraft) → taken vars d (map (plain_of new.bytes) tokens) ≡ Some x → Between old new vars x
+    one_taken x k = (
+      b.0 ++ h.spots ∷ [],
+      reads_more old s b.0 line new b.1 h e,
+      begun_more b.0 vars d x h.spots b.2 going (ap (taken vars d) (sym (said_after s line new h e tokens f)) ∙ k),
+    )
+
+  -- the end
+  pub plant_read : d.ended ≡ true → ReadsText (λ tokens. IsPlant tokens (plant_with vars d)) old s
+  plant_read ended = by_full b.1.full
+    where
+      plant : IsPlant b.0 (plant_with vars d)
+      plant = plant_of_begun b.0 vars d b.2 ended
+
+      empty : b.1.front ≡ [] → ⊥
+      empty e = no_tokens b.0 (ap token_lines (sym e) ∙ b.1.are) plant.lines_are
+        where
+          no_tokens : (ts : List (List Spot)) → Some [] ≡ Some ts → ts ≡ plant.head ∷ plant.vars ∷ plant.rest → ⊥
+          no_tokens ts p q = clash (nil ts p) q
+            where
+              nil : (ts : List (List Spot)) → Some [] ≡ Some ts → [] ≡ ts
+              nil ts p = cc
+
+              clash : [] ≡ ts → ts ≡ plant.head ∷ plant.vars ∷ plant.rest → ⊥
+              clash p q = absurd cc
+
+      by_full : EndsFull b.1.front → ReadsText (λ tokens. IsPlant tokens (plant_with vars d)) old s
+      by_full (inl e) = absurd (empty e)
+      by_full (inr x) = record {
+        before = x.0;
+        last = x.1;
+        read = subst (λ ls. IsReadTo old s ls) x.2 b.1.read;
+        text = record { tokens = b.0; are = ap token_lines (sym x.2) ∙ b.1.are; is = plant };
+        not_blank = x.3;
+      }

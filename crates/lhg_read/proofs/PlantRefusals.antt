@@ -1,0 +1,139 @@
+-- Where the lines so far cannot go on.
+use Rattle.std.proofs.Common.{◌≡◌, ℕ, List, [], ◌∷◌, ◌++◌, map, refl, sym, ap, ◌∙◌, subst, Bool, true, false, cond, Option, Some, None}
+use Rattle.std.specs.Option.{option_and_then}
+use Rattle.lhg_math.specs.Tests.{by_bool, false_true}
+use Rattle.lhg_lex.specs.PlainToken.{PlainToken}
+use Rattle.lhg_lex.specs.LineTokens.{Spot}
+use Rattle.lhg_plant.specs.Plant.{PlainPlant}
+use Rattle.lhg_read.specs.Names.{vars_of}
+use Rattle.lhg_read.specs.PlantText.{said_in, IsHead, IsPlant, IsSomePlant}
+use Rattle.lhg_read.specs.PlantSteps.{PlainDraft, empty_draft, taken, all_taken, plant_with}
+use Rattle.lhg_read.specs.Begun.{IsBegun}
+use Rattle.lhg_read.proofs.PlantParts.{map-append}
+use Rattle.lhg_read.proofs.PlantStates.{going_on, ended_none}
+use Rattle.lhg_read.proofs.PlantTexts.{begun_of_plant}
+
+none_some : {P : Type 0} (e : PlainDraft) → (let x : Option PlainDraft = None in x ≡ Some e) → P
+none_some e h = absurd cc
+
+-- lines behind other lines
+pub all_taken-append : (vars : List (List ℕ)) (d : PlainDraft) (xs ys : List (List PlainToken)) → all_taken vars d (xs ++ ys) ≡ option_and_then (λ e. all_taken vars e ys) (all_taken vars d xs)
+all_taken-append vars d [] ys = refl
+all_taken-append vars d (x ∷ xs) ys = by_end d.ended (taken vars d x) (λ e. all_taken-append vars e xs ys)
+  where
+    by_end : (b : Bool) (o : Option PlainDraft) → ((e : PlainDraft) → all_taken vars e (xs ++ ys) ≡ option_and_then (λ f. all_taken vars f ys) (all_taken vars e xs))
+        → cond b None (option_and_then (λ e. all_taken vars e (xs ++ ys)) o) ≡ option_and_then (λ e. all_taken vars e ys) (cond b None (option_and_then (λ e. all_taken vars e xs) o))
+    by_end true o f = refl
+    by_end false None f = refl
+    by_end false (Some e) f = f e
+
+-- a list that begins with three parts has one reading
+same_three : (a b c d : List Spot) (xs ys : List (List Spot)) → a ∷ b ∷ xs ≡ c ∷ d ∷ ys → (a ≡ c) × (b ≡ d) × (xs ≡ ys)
+same_three a b c d xs ys e = (cc, cc, cc)
+
+same_vars : (v w : List (List ℕ)) → Some v ≡ Some w → v ≡ w
+same_vars v w e = cc
+
+-- ---- before the variables are known
+
+pub not_empty : (p : PlainPlant) → ¬ IsPlant [] p
+not_empty p h = let e = h.lines_are in absurd cc
+
+pub no_head : (line : List Spot) (more : List (List Spot)) (p : PlainPlant) → ¬ IsHead line → ¬ IsPlant (line ∷ more) p
+no_head line more p bad h = bad (subst (λ l. IsHead l) (first line h.head more (h.vars ∷ h.rest) h.lines_are) h.head_is)
+  where
+    first : (a b : List Spot) (xs ys : List (List Spot)) → a ∷ xs ≡ b ∷ ys → b ≡ a
+    first a b xs ys e = cc
+
+pub not_head_alone : (line : List Spot) (p : PlainPlant) → ¬ IsPlant (line ∷ []) p
+not_head_alone line p h = let e = h.lines_are in absurd (clash line h.head h.vars h.rest e)
+  where
+    clash : (a b c : List Spot) (xs : List (List Spot)) → a ∷ [] ≡ b ∷ c ∷ xs → ⊥
+    clash a b c xs e = cc
+
+pub no_vars : (head line : List Spot) (more : List (List Spot)) (p : PlainPlant) → vars_of (said_in line) ≡ None → ¬ IsPlant (head ∷ line ∷ more) p
+no_vars head line more p bad h =
+    let t = same_three head line h.head h.vars more h.rest h.lines_are in
+    clash p.vars (sym bad ∙ ap (λ l. vars_of (said_in l)) t.1 ∙ h.vars_are)
+  where
+    clash : (v : List (List ℕ)) → (let x : Option (List (List ℕ)) = None in x ≡ Some v) → ⊥
+    clash v e = absurd cc
+
+-- no beginning of nothing is a plant, and none of the head alone
+pub none_at_start : (a b : List (List Spot)) → [] ≡ a ++ b → ¬ IsSomePlant a
+none_at_start [] b e h = not_empty h.0 h.1
+none_at_start (x ∷ a) b e h = absurd cc
+
+pub none_at_head : (head : List Spot) (a b : List (List Spot)) → head ∷ [] ≡ a ++ b → ¬ IsSomePlant a
+none_at_head head [] b e h = not_empty h.0 h.1
+none_at_head head (x ∷ []) b e h = not_head_alone x h.0 h.1
+none_at_head head (x ∷ y ∷ a) b e h = clash head x y (a ++ b) e
+  where
+    clash : (u v w : List Spot) (xs : List (List Spot)) → u ∷ [] ≡ v ∷ w ∷ xs → ⊥
+    clash u v w xs e = cc
+
+-- ---- behind the variables
+
+module _ (lines : List (List Spot)) (vars : List (List ℕ)) (d : PlainDraft) (b : IsBegun lines vars d) where
+  -- what a plant that begins so has taken
+  goes_on : (more : List (List Spot)) (p : PlainPlant) → IsPlant (lines ++ more) p → (e : PlainDraft) × (all_taken vars d (map said_in more) ≡ Some e) × (e.ended ≡ true) × (plant_with vars e ≡ p)
+  goes_on more p h =
+      let g = begun_of_plant (lines ++ more) p h in
+      let f = g.1 in
+      let t = same_three b.head b.names f.head f.names (b.rest ++ more) f.rest (ap (λ ls. ls ++ more) (sym b.lines_are) ∙ f.lines_are) in
+      let v : vars ≡ p.vars = same_vars vars p.vars (sym b.vars_are ∙ ap (λ l. vars_of (said_in l)) t.1 ∙ f.vars_are) in
+      let all : all_taken vars empty_draft (map said_in (b.rest ++ more)) ≡ Some g.0 = ap (λ w. all_taken w empty_draft (map said_in (b.rest ++ more))) v ∙ ap (λ ls. all_taken p.vars empty_draft (map said_in ls)) t.2 ∙ f.taken in
+      let rest : all_taken vars d (map said_in more) ≡ Some g.0 =
+      ap (option_and_then (λ e. all_taken vars e (map said_in more))) (sym b.taken) ∙ sym (all_taken-append vars empty_draft (map said_in b.rest) (map said_in more))
+      ∙ ap (all_taken vars empty_draft) (sym (map-append said_in b.rest more)) ∙ all in
+      (g.0, rest, g.2, ap (λ w. plant_with w g.0) v ∙ g.3)
+
+  -- a line that is not taken
+  pub no_line : (line : List Spot) (more : List (List Spot)) (p : PlainPlant) → taken vars d (said_in line) ≡ None → ¬ IsPlant (lines ++ line ∷ more) p
+  no_line line more p bad h =
+      let g = goes_on (line ∷ more) p h in
+      none_some g.0 (sym (by_end d.ended) ∙ ap (λ o. cond d.ended None (option_and_then (λ x. all_taken vars x (map said_in more)) o)) (sym bad) ∙ g.1)
+    where
+      by_end : (b : Bool) → cond b None (let x : Option PlainDraft = None in x) ≡ None
+      by_end true = refl
+      by_end false = refl
+
+  -- lines without an end
+  pub no_end : (p : PlainPlant) → d.ended ≡ false → ¬ IsPlant lines p
+  no_end p going h =
+      let g = goes_on [] p (subst (λ ls. IsPlant ls p) (sym (plain lines)) h) in
+      let e : d ≡ g.0 = same d g.0 g.1 in
+      false_true (sym going ∙ ap (λ (x : PlainDraft). x.ended) e ∙ g.2)
+    where
+      plain : (xs : List (List Spot)) → xs ++ [] ≡ xs
+      plain [] = refl
+      plain (x ∷ xs) = ap (λ ys. x ∷ ys) (plain xs)
+
+      same : (x y : PlainDraft) → Some x ≡ Some y → x ≡ y
+      same x y e = cc
+
+  -- lines that have ended are a plant, and no further line with tokens is one too
+  pub no_more : (line : List Spot) (more : List (List Spot)) (p : PlainPlant) → d.ended ≡ true → ¬ IsPlant (lines ++ line ∷ more) p
+  no_more line more p ended h = let g = goes_on (line ∷ more) p h in none_some g.0 (sym (ended_none d.ended _ ended) ∙ g.1)
+
+-- no beginning of lines that have not ended is a plant
+pub none_yet : (lines : List (List Spot)) (vars : List (List ℕ)) (d : PlainDraft) → IsBegun lines vars d → d.ended ≡ false → (a b : List (List Spot)) → lines ≡ a ++ b → ¬ IsSomePlant a
+none_yet lines vars d b going first rest e h =
+    let g = begun_of_plant first h.0 h.1 in
+    let f = g.1 in
+    let t = same_three b.head b.names f.head f.names b.rest (f.rest ++ rest) (sym b.lines_are ∙ e ∙ ap (λ ls. ls ++ rest) f.lines_are) in
+    let v : vars ≡ h.0.vars = same_vars vars h.0.vars (sym b.vars_are ∙ ap (λ l. vars_of (said_in l)) t.1 ∙ f.vars_are) in
+    let all : all_taken h.0.vars g.0 (map said_in rest) ≡ Some d =
+    sym (
+    ap (λ ls. all_taken h.0.vars empty_draft (map said_in ls)) t.2
+    ∙ ap (all_taken h.0.vars empty_draft) (map-append said_in f.rest rest) ∙ all_taken-append h.0.vars empty_draft (map said_in f.rest) (map said_in rest)
+    ∙ ap (option_and_then (λ x. all_taken h.0.vars x (map said_in rest))) f.taken
+    ) ∙ ap (λ w. all_taken w empty_draft (map said_in b.rest)) (sym v) ∙ b.taken in
+    by_rest h.0.vars g.0 rest g.2 all
+  where
+    same : (x y : PlainDraft) → Some x ≡ Some y → x ≡ y
+    same x y e = cc
+
+    by_rest : (w : List (List ℕ)) (x : PlainDraft) (more : List (List Spot)) → x.ended ≡ true → all_taken w x (map said_in more) ≡ Some d → ⊥
+    by_rest w x [] t k = false_true (sym going ∙ ap (λ (y : PlainDraft). y.ended) (sym (same x d k)) ∙ t)
+    by_rest w x (l ∷ more) t k = none_some d (sym (ended_none x.ended _ t) ∙ k)

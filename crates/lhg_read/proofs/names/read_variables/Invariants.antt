@@ -1,0 +1,12 @@
+use Rattle.std.proofs.Common.{◌≡◌, ◌≤◌, [], length, map, drop, true}
+use Rattle.lhg_lex.specs.TextTokens.{plain_of}
+use Rattle.lhg_read.specs.Names.{all_differ}
+use Rattle.lhg_read.proofs.VariableSteps.{further}
+use Rattle.lhg_read.proofs.names.read_variables.Given as goal
+
+abbrev pub invariant-loop-token : goal.invariant-loop-token
+invariant-loop-token l = record {
+  few : length l.vars.items ≤ 6;
+  differ : all_differ l.vars.items ≡ true;
+  left : further [] (map (plain_of l.lines.bytes) l.tokens) ≡ further l.vars.items (map (plain_of l.lines.bytes) (drop l.token-index l.tokens));
+}

@@ -1,0 +1,30 @@
+// The head of a plant.
+ghost use Rattle.std.specs.Prelude.{◌≡◌, [], All};
+ghost use Rattle.lhg_lex.specs.TextTokens.{plain_of, IsSpan};
+ghost use Rattle.lhg_read.specs.HeadTest.{is_unit, head_test};
+
+use crate::signs::is_word;
+use lhg_lex::{Lines, Tok, Token};
+use lhg_num::{Frac, Scalar};
+
+fn is_unit(token: &Token) -> bool
+    ensures { result ≡ is_unit (plain_of [] token.now) }
+{
+    match token.kind {
+        Tok::Number(q) => q == Frac::one(),
+        _ => false,
+    }
+}
+
+/// Whether the tokens are `lhg 1`, where the number is that one digit.
+pub(crate) fn is_head(lines: &Lines, tokens: &[Token]) -> bool
+    requires { All (IsSpan lines.now.bytes) tokens.now }
+    ensures { result ≡ head_test lines.now.bytes tokens.now }
+{
+    match tokens {
+        [word, number] => {
+            is_word(lines, word, b"lhg") && is_unit(number) && number.to - number.from == 1
+        }
+        _ => false,
+    }
+}
