@@ -62,7 +62,8 @@ none_left b true e h = refl
 none_left true false e h = false_true e
 none_left false false e h = h
 
-covering : (n : ℕ) (ps qs rest : List PlainPiece) → AllPolys n rest → IsDifference n ps qs rest → IsCovering n ps qs (is_nil rest)
+-- a list of pieces with points has a member where something is left, and else nothing is
+pub covering : (n : ℕ) (ps qs rest : List PlainPiece) → AllPolys n rest → IsDifference n ps qs rest → IsCovering n ps qs (is_nil rest)
 covering n ps qs [] h f = λ x l i. none_left (in_some ps x) (in_some qs x) (f x l) i
 covering n ps qs (p ∷ rest) h f =
     let x = h.0.point.point in

@@ -1,0 +1,9 @@
+pub mod CutSteps
+pub mod Exact
+pub mod GatherSteps
+pub mod LimitSteps
+pub mod ListFacts
+pub mod MeetFacts
+pub mod MeetSteps
+pub mod MinusSteps
+pub mod RegionSteps

@@ -1,0 +1,2 @@
+pub mod PolyLists
+pub mod Regions

@@ -1,0 +1,14 @@
+// Lists of pieces: regions, differences, intersections and covers.
+#![tactic(auto)]
+
+mod cutting;
+mod differences;
+mod intersections;
+pub mod laws;
+mod limits;
+mod regions;
+
+pub use differences::{covered, minus};
+pub use intersections::meet_lists;
+pub use limits::{LIST_ROW_LIMIT, PIECE_LIMIT};
+pub use regions::Region;
