@@ -1,5 +1,5 @@
 -- What is the piece of a list of rows, and which pieces are made of pieces?
-use Rattle.std.specs.Prelude.{ℕ, zero, suc, ◌+◌, ◌-◌, Bool, true, false, cond, ◌&&◌, [], ◌∷◌, ◌++◌, map, length, remove, Option, Some, None}
+use Rattle.std.specs.Prelude.{ℕ, zero, suc, ◌+◌, ◌-◌, Bool, true, false, cond, [], ◌∷◌, ◌++◌, map, length, remove, Option, Some, None}
 use Rattle.lhg_num.specs.Arithmetic.{Arithmetic}
 use Rattle.lhg_num.specs.Marked.{Marked, done, and_then, valued}
 use Rattle.lhg_row.specs.Row.{PlainRow, relaxed}

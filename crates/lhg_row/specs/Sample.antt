@@ -1,5 +1,5 @@
 -- Which point of a piece of fractions is its sample?
-use Rattle.std.specs.Prelude.{ℕ, zero, suc, ◌||◌, cond, [], ◌∷◌, ◌++◌, filter, Option, Some, None}
+use Rattle.std.specs.Prelude.{ℕ, zero, suc, Bool, ◌||◌, cond, [], ◌∷◌, ◌++◌, Option, Some, None}
 use Rattle.std.specs.declared.cmp.Ordering.{Ordering}
 use Rattle.std.specs.declared.cmp.Ordering.TheVariants.{Less, Equal, Greater}
 use Rattle.lhg_math.specs.Number.{Number, nought, unit}
@@ -41,17 +41,23 @@ abbrev pub tighten : (Bound → Bound → Ordering → Bound) → Option Bound �
 tighten pick None next = done (Some next)
 tighten pick (Some kept) next = valued (λ o. Some (pick kept next o)) (marked_cmp frac_arithmetic kept.at next.at)
 
--- the tightest of the bounds that the rows give, in their order
-abbrev pub tightest : (Bound → Bound → Ordering → Bound) → ℕ → PlainPoint → PlainPiece → Marked (Option Bound)
-tightest pick j p rows = walk (λ kept r. and_then (bound_at j p r) (tighten pick kept)) None rows
+-- the bound kept so far, and with it that of a row which bounds the variable from this side
+abbrev pub tightened : (Bound → Bound → Ordering → Bound) → (PlainRow → Bool) → ℕ → PlainPoint → Option Bound → PlainRow → Marked (Option Bound)
+tightened pick bounds j p kept r =
+    let both = and_then (bound_at j p r) (tighten pick kept) in
+    cond (bounds r) both (done kept)
+
+-- the tightest of the bounds that the rows give from this side, in their order
+abbrev pub tightest : (Bound → Bound → Ordering → Bound) → (PlainRow → Bool) → ℕ → PlainPoint → PlainPiece → Marked (Option Bound)
+tightest pick bounds j p rows = walk (tightened pick bounds j p) None rows
 
 -- the greatest lower bound of variable j
 abbrev pub greatest_lower : ℕ → PlainPoint → PlainPiece → Marked (Option Bound)
-greatest_lower j p rows = tightest greater_of j p (filter (lower_at j) rows)
+greatest_lower j p rows = tightest greater_of (lower_at j) j p rows
 
 -- its least upper bound
 abbrev pub least_upper : ℕ → PlainPoint → PlainPiece → Marked (Option Bound)
-least_upper j p rows = tightest lesser_of j p (filter (upper_at j) rows)
+least_upper j p rows = tightest lesser_of (upper_at j) j p rows
 
 -- ---- the value between two bounds
 -- no bound: 0. A lower bound alone: that bound, or 1 more where it is strict. An upper bound alone: that bound, or 1 less where it is

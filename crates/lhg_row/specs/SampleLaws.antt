@@ -8,7 +8,7 @@ use Rattle.lhg_math.specs.NumberOrder.{lt_asym}
 use Rattle.lhg_math.specs.Bounds.{Bound, under, over}
 use Rattle.lhg_math.specs.Tests.{all_of, by_bool, every_from_all, all_from_every}
 use Rattle.lhg_num.specs.FracArithmetic.{frac_arithmetic, frac_is_lawful}
-use Rattle.lhg_num.specs.Marked.{and_then, walk}
+use Rattle.lhg_num.specs.Marked.{walk}
 use Rattle.lhg_row.specs.Row.{PlainRow, PlainPoint, row_value, holds_at}
 use Rattle.lhg_row.specs.Piece.{PlainPiece, InPiece, in_piece}
 use Rattle.lhg_row.specs.Values.{marked_value}
@@ -18,13 +18,12 @@ use Rattle.lhg_row.specs.ColumnLaws.{bar_at, holds-insert}
 use Rattle.lhg_row.specs.Bars.{meets, stands, bound_of, meets_upper, meets_lower, level_meets}
 use Rattle.lhg_row.specs.Width.{AllWide}
 use Rattle.lhg_row.specs.WidthLaws.{eliminate-wide}
-use Rattle.lhg_row.specs.WithoutLaws.{filter-wide}
 use Rattle.lhg_row.specs.HasValue.{HasValue, HasPoint}
 use Rattle.lhg_row.specs.PieceFacts.{IsPointOf}
 use Rattle.lhg_row.specs.Eliminate.{eliminate}
 use Rattle.lhg_row.specs.EliminateLaws.{eliminate-exact}
 use Rattle.lhg_row.specs.Ends.{insert-end, longer, last_of, none_left}
-use Rattle.lhg_row.specs.Sample.{bound_at, greater_of, lesser_of, tighten, greatest_lower, least_upper, chosen, value_of, sample}
+use Rattle.lhg_row.specs.Sample.{bound_at, greater_of, lesser_of, tighten, tightened, greatest_lower, least_upper, chosen, value_of, sample}
 use Rattle.lhg_row.specs.BoundLaws.{greater_of-over, lesser_of-under, over_bound, under_bound, chosen-between}
 
 -- ---- the bound of one row
@@ -98,28 +97,32 @@ module _ (j : ℕ) (p : PlainPoint) (e : length p ≡ j) where
   tighten-under (Some l) b u = lesser_of-under l b u
 
   walk-over : (kept : Option Bound) (rows : PlainPiece) (u : Number) → AllWide (suc j) rows
-      → over_bound (walk (λ k r. and_then (bound_at j p r) (tighten greater_of k)) kept rows).value u ≡ (over_bound kept u && all_of (λ r. over (given r) u) rows)
+      → over_bound (walk (tightened greater_of (lower_at j) j p) kept rows).value u ≡ (over_bound kept u && all_over rows u)
   walk-over kept [] u w = sym (and-true (over_bound kept u))
   walk-over kept (r ∷ rows) u w =
-      walk-over (tighten greater_of kept (bound_at j p r).value).value rows u w.1
-      ∙ ap (λ b. b && all_of (λ s. over (given s) u) rows) (tighten-over kept (bound_at j p r).value u ∙ ap (λ b. over_bound kept u && over b u) (bound_at-is j p r e w.0))
-      ∙ and_assoc (over_bound kept u) (over (given r) u) (all_of (λ s. over (given s) u) rows)
+      by_bool (lower_at j r)
+      (λ k. rw k (walk-over (tighten greater_of kept (bound_at j p r).value).value rows u w.1
+      ∙ ap (λ b. b && all_over rows u) (tighten-over kept (bound_at j p r).value u ∙ ap (λ b. over_bound kept u && over b u) (bound_at-is j p r e w.0))
+      ∙ and_assoc (over_bound kept u) (over (given r) u) (all_over rows u)))
+      (λ k. rw k (walk-over kept rows u w.1))
 
   walk-under : (kept : Option Bound) (rows : PlainPiece) (u : Number) → AllWide (suc j) rows
-      → under_bound (walk (λ k r. and_then (bound_at j p r) (tighten lesser_of k)) kept rows).value u ≡ (under_bound kept u && all_of (λ r. under (given r) u) rows)
+      → under_bound (walk (tightened lesser_of (upper_at j) j p) kept rows).value u ≡ (under_bound kept u && all_under rows u)
   walk-under kept [] u w = sym (and-true (under_bound kept u))
   walk-under kept (r ∷ rows) u w =
-      walk-under (tighten lesser_of kept (bound_at j p r).value).value rows u w.1
-      ∙ ap (λ b. b && all_of (λ s. under (given s) u) rows) (tighten-under kept (bound_at j p r).value u ∙ ap (λ b. under_bound kept u && under b u) (bound_at-is j p r e w.0))
-      ∙ and_assoc (under_bound kept u) (under (given r) u) (all_of (λ s. under (given s) u) rows)
+      by_bool (upper_at j r)
+      (λ k. rw k (walk-under (tighten lesser_of kept (bound_at j p r).value).value rows u w.1
+      ∙ ap (λ b. b && all_under rows u) (tighten-under kept (bound_at j p r).value u ∙ ap (λ b. under_bound kept u && under b u) (bound_at-is j p r e w.0))
+      ∙ and_assoc (under_bound kept u) (under (given r) u) (all_under rows u)))
+      (λ k. rw k (walk-under kept rows u w.1))
 
   -- where some value of the variable satisfies the rows, the chosen one does
   pub value_of-holds : (rows : PlainPiece) → AllWide (suc j) rows → HasValue j rows p → InPiece rows (insert p j (value_of j p rows).value)
   value_of-holds rows w h =
       let lo = (greatest_lower j p rows).value in
       let up = (least_upper j p rows).value in
-      let lo_is = λ (u : Number). walk-over None (filter (lower_at j) rows) u (filter-wide (suc j) (lower_at j) rows w) in
-      let up_is = λ (u : Number). walk-under None (filter (upper_at j) rows) u (filter-wide (suc j) (upper_at j) rows w) in
+      let lo_is = λ (u : Number). walk-over None rows u w in
+      let up_is = λ (u : Number). walk-under None rows u w in
       let v = h.value in
       let s = and_parts (levels_stand rows) (all_over rows v && all_under rows v) (sym (split v rows w) ∙ all_from_every (λ r. holds_at r (insert p j v)) rows h.holds) in
       let t = and_parts (all_over rows v) (all_under rows v) s.1 in
