@@ -1,0 +1,28 @@
+-- From which side does a row bound a variable, and which of two bounds is the tighter?
+use Rattle.std.specs.Prelude.{ℕ, Bool, Option, option_map}
+use Rattle.std.specs.declared.cmp.Ordering.{Ordering}
+use Rattle.lhg_math.specs.Bounds.{Bound}
+use Rattle.lhg_row.specs.Row.{PlainRow}
+use Rattle.lhg_row.specs.Column.{lower_at, upper_at}
+use Rattle.lhg_row.specs.Sample.{greater_of, lesser_of}
+use Rattle.lhg_sample.specs.declared.bounds.Side.{Side}
+use Rattle.lhg_sample.specs.declared.bounds.Side.TheVariants.{Lower, Upper}
+use Rattle.lhg_sample.specs.declared.bounds.Limit as held
+
+-- the row bounds variable j from this side
+abbrev pub bounds_from : Side → ℕ → PlainRow → Bool
+bounds_from Lower = lower_at
+bounds_from Upper = upper_at
+
+-- the tighter of two bounds of this side
+abbrev pub tighter_from : Side → Bound → Bound → Ordering → Bound
+tighter_from Lower = greater_of
+tighter_from Upper = lesser_of
+
+-- a bound that the code holds
+abbrev pub plain_bound : held.Limit → Bound
+plain_bound b = record { at = b.at; strict = b.strict }
+
+-- the same where there may be none
+abbrev pub plain_bounds : Option held.Limit → Option Bound
+plain_bounds o = option_map plain_bound o
