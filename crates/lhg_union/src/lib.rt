@@ -7,6 +7,8 @@ mod intersections;
 pub mod laws;
 mod limits;
 mod regions;
+#[cfg(test)]
+mod tests;
 
 pub use differences::{covered, minus};
 pub use intersections::meet_lists;
