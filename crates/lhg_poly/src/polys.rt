@@ -8,7 +8,7 @@ ghost use Rattle.lhg_row.specs.Truths as calculus;
 
 use crate::copies::copy_rows;
 use lhg_num::{Halt, Scalar, Wide};
-use lhg_row::{Point, Row, System, holds};
+use lhg_row::{Point, Row, System, all_hold};
 use std::alloc::Global;
 use std::marker::Model;
 
@@ -70,13 +70,7 @@ impl<N: Scalar> Poly<N> {
         ensures calculus { IsWideBy result (calculus.piece_truth N.arithmetic self.now.lines point.now) (λ b. b) }
         ensures exact { IfOk result (λ b. b ≡ in_piece self.now.lines point.now) }
     {
-        for row in self.system.rows() {
-            let here = holds(row, point)?;
-            if !here {
-                return Ok(false);
-            }
-        }
-        Ok(true)
+        all_hold(self.system.rows(), point)
     }
 
     // The piece of rows that are one.

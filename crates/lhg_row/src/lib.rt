@@ -17,4 +17,4 @@ pub use forms::{negate, relax, rename};
 pub use rows::{Kind, Point, Row};
 pub use systems::System;
 pub use trimming::{ROW_LIMIT, trim};
-pub use values::{holds, shift};
+pub use values::{all_hold, fits, holds, plus_product, shift, value_from};

@@ -4,8 +4,11 @@ ghost use Rattle.std.specs.declared.cmp.Ordering.{Ordering};
 ghost use Rattle.lhg_math.specs.Number.{nought};
 ghost use Rattle.lhg_num.specs.Halting.{IsWideBy, IsHaltedByWide};
 ghost use Rattle.lhg_row.specs.Row.{PlainRow, PlainPoint, holds_at};
+ghost use Rattle.lhg_row.specs.Piece.{in_piece};
+ghost use Rattle.lhg_row.specs.Width.{AllWide};
 ghost use Rattle.lhg_row.specs.Kinds as plain;
 ghost use Rattle.lhg_row.specs.Moves.{moved};
+ghost use Rattle.lhg_row.specs.Truths.{piece_truth};
 ghost use Rattle.lhg_row.specs.Values as calculus;
 
 use crate::rows::{Kind, Point, Row};
@@ -23,6 +26,21 @@ pub fn holds<N: Scalar>(row: &Row<N>, point: &Point<N>) -> Result<bool, Wide>
     let sum = value(&row.coefs, &point.at)?;
     let order = sum.cmp(&row.bound)?;
     Ok(fits(row.kind, order))
+}
+
+/// Whether all rows hold at the point. It answers `Wide` only where whether one of the rows holds at the point is so answered.
+pub fn all_hold<N: Scalar>(rows: &[Row<N>], point: &Point<N>) -> Result<bool, Wide>
+    requires { AllWide (length point.now) rows.now }
+    ensures calculus { IsWideBy result (piece_truth N.arithmetic rows.now point.now) (λ b. b) }
+    ensures exact { IfOk result (λ b. b ≡ in_piece rows.now point.now) }
+{
+    for row in rows {
+        let here = holds(row, point)?;
+        if !here {
+            return Ok(false);
+        }
+    }
+    Ok(true)
 }
 
 /// The row that holds at x exactly where the old one holds at x + m * by.
@@ -54,23 +72,31 @@ fn value<N: Scalar>(coefs: &[N], at: &[N]) -> Result<N, Wide>
     requires { length coefs.now ≡ length at.now }
     ensures { IsWideBy result (calculus.marked_value N.arithmetic nought (map N.meaning coefs.now) (map N.meaning at.now)) N.meaning }
 {
-    let mut sum = N::zero();
+    value_from(N::zero(), coefs, at)
+}
+
+/// The start, and to it the products of the coefficients and the coordinates, from the first to the last.
+pub fn value_from<N: Scalar>(start: N, coefs: &[N], at: &[N]) -> Result<N, Wide>
+    requires { length coefs.now ≡ length at.now }
+    ensures { IsWideBy result (calculus.marked_value N.arithmetic (N.meaning start) (map N.meaning coefs.now) (map N.meaning at.now)) N.meaning }
+{
+    let mut sum = start;
     for i in 0..coefs.len() {
         sum = plus_product(&sum, &coefs[i], &at[i])?;
     }
     Ok(sum)
 }
 
-// sum + c * x
-fn plus_product<N: Scalar>(sum: &N, c: &N, x: &N) -> Result<N, Wide>
+/// sum + c * x
+pub fn plus_product<N: Scalar>(sum: &N, c: &N, x: &N) -> Result<N, Wide>
     ensures { IsWideBy result (calculus.plus_product N.arithmetic (N.meaning sum.now) (N.meaning c.now) (N.meaning x.now)) N.meaning }
 {
     let product = c.mul(x)?;
     sum.add(&product)
 }
 
-// Whether a row of this kind holds where its value has this order against its bound.
-fn fits(kind: Kind, order: Ordering) -> bool
+/// Whether a row of this kind holds where its value has this order against its bound.
+pub fn fits(kind: Kind, order: Ordering) -> bool
     ensures { result ≡ calculus.fits_order (plain.is_strict kind) order }
 {
     match order {
