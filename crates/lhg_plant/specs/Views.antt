@@ -1,19 +1,10 @@
 -- What do contracts see of the plants and states that the code holds?
 use Rattle.std.specs.Prelude.{map}
-use Rattle.lhg_plant.specs.declared.plants.Location.{Location}
-use Rattle.lhg_plant.specs.declared.plants.Switch.{Switch}
 use Rattle.lhg_plant.specs.declared.plants.Plant.{Plant}
 use Rattle.lhg_plant.specs.declared.states.State.{State}
-use Rattle.lhg_plant.specs.Plant.{PlainLocation, PlainSwitch, PlainPlant}
+use Rattle.lhg_plant.specs.Plant.{PlainPlant}
 use Rattle.lhg_plant.specs.State.{PlainState}
-
--- a location as plain data
-abbrev pub plain_location : Location → PlainLocation
-plain_location l = record { name = l.name; inv = l.inv.items; flow = l.flow.items; safe = map (λ rows. rows.items) l.safe.items }
-
--- a switch as plain data
-abbrev pub plain_switch : Switch → PlainSwitch
-plain_switch w = record { name = w.name; from = w.from; to = w.to; side = w.side; jump = w.jump.items }
+pub use Rattle.lhg_plant.specs.Parts.{plain_location, plain_switch}
 
 -- a plant as plain data
 abbrev pub plain_plant : Plant → PlainPlant

@@ -2,12 +2,13 @@
 ghost use Rattle.std.specs.Prelude.{◌≡◌};
 ghost use Rattle.lhg_plant.specs.Word.{IsName};
 
+use crate::limits::MOST_NAME_BYTES;
 use std::marker::Model;
 
 /// A name of 1 to 32 bytes: a letter or `_`, then letters, digits and `_`.
 #[derive(Clone, Copy, Debug)]
 pub struct Name {
-    array: [u8; 32],
+    array: [u8; MOST_NAME_BYTES],
     used: usize,
 }
 
@@ -54,7 +55,7 @@ impl Name {
         ensures { result ≡ bytes.now }
     {
         let used = bytes.len();
-        let mut array = [0; 32];
+        let mut array = [0; MOST_NAME_BYTES];
         array[..used].copy_from_slice(bytes);
         Name { array, used }
     }

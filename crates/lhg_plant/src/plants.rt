@@ -1,4 +1,9 @@
 // Plants as values.
+ghost use Rattle.std.specs.Prelude.{map};
+ghost use Rattle.lhg_plant.specs.Parts.{plain_location, plain_switch};
+ghost use Rattle.lhg_plant.specs.Proper.{IsProper};
+ghost use Rattle.lhg_plant.specs.ProperOnce.{proper-prop};
+
 use crate::names::Name;
 use lhg_num::Frac;
 use lhg_row::Row;
@@ -35,10 +40,12 @@ pub struct Switch {
     pub jump: Vec<Row<Frac>>,
 }
 
-/// A linear hybrid automaton.
+/// A linear hybrid automaton. Its names differ within each list, its places are in range, the lengths of its rows agree, and
+/// it is not too large.
 #[derive(Drop)]
 pub struct Plant {
     pub vars: Vec<Name>,
     pub locs: Vec<Location>,
     pub switches: Vec<Switch>,
+    pub ghost proper: { IsProper (record { vars = vars.items; locs = map plain_location locs.items; switches = map plain_switch switches.items }) } by { proper-prop (record { vars = vars.items; locs = map plain_location locs.items; switches = map plain_switch switches.items }) },
 }

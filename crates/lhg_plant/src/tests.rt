@@ -1,6 +1,6 @@
 // Names at both ends of their length, and a set of states of one's own.
 use crate::laws::{law_monotone, law_secure_sets, law_still_sets};
-use crate::{Name, Plant, State, StateSet};
+use crate::{Location, Name, Plant, State, StateSet};
 use lhg_num::Wide;
 use lhg_row::Point;
 use std::test::Fail;
@@ -33,9 +33,18 @@ fn names_keep_their_bytes(rt: HostRuntime) {
 
 #[test]
 fn a_set_of_ones_own(rt: HostRuntime) -> Result<(), Fail> {
+    let mut vars = Vec::new(rt.alloc());
+    vars.push(Name::new(b"x"))?;
+    let mut locs = Vec::new(rt.alloc());
+    locs.push(Location {
+        name: Name::new(b"l"),
+        inv: Vec::new(rt.alloc()),
+        flow: Vec::new(rt.alloc()),
+        safe: Vec::new(rt.alloc()),
+    })?;
     let plant = Plant {
-        vars: Vec::new(rt.alloc()),
-        locs: Vec::new(rt.alloc()),
+        vars,
+        locs,
         switches: Vec::new(rt.alloc()),
     };
     let state = State {

@@ -1,10 +1,10 @@
 -- The coefficients of one variable, written into zeros.
-use Rattle.std.proofs.Common.{◌≡◌, ◌<◌, ◌≤◌, ◌+◌, ◌-◌, ℕ, zero, suc, List, [], ◌∷◌, ◌++◌, length, replicate, set, refl, sym, ap, ◌∙◌, arith, append_assoc, zero-add}
+use Rattle.std.proofs.Common.{◌≡◌, ◌<◌, ◌+◌, ◌-◌, ℕ, zero, suc, List, [], ◌∷◌, ◌++◌, length, replicate, set, refl, sym, ap, ◌∙◌, arith, append_assoc, zero-add}
 use Rattle.std.proofs.lemmas.List.{length-replicate}
 use Rattle.lhg_math.specs.Number.{Number, nought, neg, unit}
 use Rattle.lhg_row.specs.Piece.{PlainPiece}
-use Rattle.lhg_plant.specs.Still.{axis, axis_row, still_from, still_rows}
-use Rattle.lhg_read.specs.Keep.{change_row, keep_from, keep_rows}
+use Rattle.lhg_plant.specs.Still.{axis, axis_row, still_from}
+use Rattle.lhg_read.specs.Keep.{change_row, keep_from}
 
 -- one of n zeros is replaced
 pub axis_set : (n v : ℕ) (c : Number) → v < n → set (replicate n nought) v c ≡ axis n v c

@@ -1,5 +1,5 @@
 -- Two or three sums with operators between are read from left to right.
-use Rattle.std.proofs.Common.{◌≡◌, ◌<◌, ◌≤◌, ◌+◌, ◌-◌, ◌⊎◌, inl, inr, ℕ, List, [], ◌∷◌, ◌++◌, length, take, drop, map, refl, sym, ap, ◌∙◌, Bool, Option, Some, None, arith, get_or, append_assoc}
+use Rattle.std.proofs.Common.{◌≡◌, ◌<◌, ◌≤◌, ◌+◌, ◌-◌, inl, inr, ℕ, List, [], ◌∷◌, ◌++◌, length, take, drop, map, refl, sym, ap, ◌∙◌, Option, Some, None, arith, get_or, append_assoc}
 use Rattle.std.specs.List.{position_or_len}
 use Rattle.std.specs.Option.{option_and_then, is_some}
 use Rattle.std.proofs.lemmas.List.{take_rest, take_all, length-drop}
@@ -17,7 +17,7 @@ use Rattle.lhg_read.specs.Sum.{sum_of}
 use Rattle.lhg_read.specs.Pair.{pair_rows, pair_of}
 use Rattle.lhg_read.specs.Rows.{chain_of}
 use Rattle.lhg_read.specs.declared.forms.Form.{Form}
-use Rattle.lhg_read.proofs.Cuts.{IsBlind, whole, behind, ahead, only_part, first_part, last_part, inner_part}
+use Rattle.lhg_read.proofs.Cuts.{IsBlind, behind, ahead, only_part, first_part, last_part, inner_part}
 use Rattle.lhg_read.proofs.SumSteps.{some_or_all, a_token}
 
 -- operators are told without the text

@@ -1,18 +1,17 @@
 -- Terms that are put one after another are proper, and make the row of the pair.
-use Rattle.std.proofs.Common.{◌≡◌, ◌<◌, ◌≤◌, ◌+◌, ◌==◌, ℕ, zero, suc, List, [], ◌∷◌, length, refl, sym, ap, ◌∙◌, subst, Bool, true, false, cond, arith, get_or, set, Option, Some, None}
+use Rattle.std.proofs.Common.{◌≡◌, ◌<◌, ◌≤◌, ◌+◌, ◌==◌, ℕ, List, [], ◌∷◌, length, refl, sym, ap, ◌∙◌, Bool, true, false, cond, arith, get_or, set, Option, Some, None}
 use Rattle.std.specs.Prelude.{count_by, is_some}
-use Rattle.std.specs.Option.{option_and_then, unwrap_or}
+use Rattle.std.specs.Option.{unwrap_or}
 use Rattle.std.proofs.lemmas.List.{get_or-set_same, get_or-set_other, length-set}
 use Rattle.std.proofs.lemmas.List.Sums.{sum_by-cons}
 use Rattle.std.proofs.lemmas.Bool.{eqb-true, eqb-false}
-use Rattle.std.proofs.lemmas.Bool.Decides.{nat_tests}
 use Rattle.lhg_math.specs.Number.{Number, nought}
 use Rattle.lhg_math.specs.Signs.{is_nought}
 use Rattle.lhg_math.specs.SignLaws.{nought_is}
 use Rattle.lhg_math.specs.Tests.{by_bool}
 use Rattle.lhg_row.specs.Members.{AllOf}
 use Rattle.lhg_read.specs.Pair.{is_at, is_alone, factor_in}
-use Rattle.lhg_read.specs.Collect.{Collected, with_term, with_terms}
+use Rattle.lhg_read.specs.Collect.{Collected, with_terms}
 use Rattle.lhg_read.specs.declared.terms.Term.{Term}
 use Rattle.lhg_read.specs.declared.terms.Term.TheVariants.{Times, Alone}
 

@@ -1,12 +1,12 @@
 -- A list that is cut at the members that pass a test, part by part.
-use Rattle.std.proofs.Common.{◌≡◌, ◌<◌, ◌≤◌, ◌+◌, ◌-◌, ℕ, zero, suc, List, [], ◌∷◌, length, take, drop, map, refl, sym, ap, ◌∙◌, subst, Bool, true, false, cond, arith, get_or}
+use Rattle.std.proofs.Common.{◌≡◌, ◌<◌, ◌≤◌, ◌+◌, ◌-◌, ℕ, zero, suc, List, [], ◌∷◌, length, take, drop, map, refl, sym, ap, ◌∙◌, Bool, arith, get_or}
 use Rattle.std.specs.List.{position_or_len}
 use Rattle.std.proofs.lemmas.List.{take_rest, take_all, drop-drop, get_or-drop, length-drop}
 use Rattle.lhg_math.specs.Tests.{by_bool}
 use Rattle.lhg_lex.specs.PlainToken.{PlainToken}
 use Rattle.lhg_lex.specs.TextTokens.{plain_of}
 use Rattle.lhg_lex.specs.declared.tokens.Token.{Token}
-use Rattle.lhg_read.specs.Cut.{Cut, cut, onto_cut}
+use Rattle.lhg_read.specs.Cut.{Cut, cut}
 
 -- a first part, and then what is cut off behind the member x
 abbrev pub behind : {A : Type 0} → List A → A → Cut A → Cut A

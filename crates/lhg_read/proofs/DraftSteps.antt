@@ -1,5 +1,5 @@
 -- What the code holds of a plant that is being read, and what it changes.
-use Rattle.std.proofs.Common.{◌≡◌, ◌<◌, ◌≤◌, ◌+◌, ◌-◌, ℕ, zero, suc, List, [], ◌∷◌, ◌++◌, length, map, set, get_or, refl, sym, ap, ◌∙◌, Bool, true, false, not, cond, ◌||◌, ◌&&◌, Option, Some, None, arith, vec_len}
+use Rattle.std.proofs.Common.{◌≡◌, ◌<◌, ◌+◌, ℕ, zero, suc, List, [], ◌∷◌, length, map, set, get_or, refl, sym, ap, ◌∙◌, true, not, cond, ◌||◌, ◌&&◌, Some, None, arith}
 use Rattle.std.specs.Prelude.{nat_lt}
 use Rattle.std.specs.List.{list_any, position, position_or_len}
 use Rattle.std.specs.Str.{bytes_eq}
@@ -7,9 +7,9 @@ use Rattle.std.proofs.lemmas.List.{length-map}
 use Rattle.std.proofs.lemmas.Bool.Decides.{nat_tests}
 use Rattle.lhg_plant.specs.declared.plants.Location.{Location}
 use Rattle.lhg_plant.specs.declared.plants.Switch.{Switch}
-use Rattle.lhg_plant.specs.Plant.{PlainLocation, PlainSwitch}
+use Rattle.lhg_plant.specs.Plant.{PlainLocation}
 use Rattle.lhg_plant.specs.Views.{plain_location, plain_switch}
-use Rattle.lhg_read.specs.Names.{is_among}
+use Rattle.lhg_plant.specs.Differ.{is_among}
 use Rattle.lhg_read.specs.Term.{place_of}
 use Rattle.lhg_read.specs.PlantSteps.{is_nil, loc_names, switch_names, with_last, safe_lines}
 

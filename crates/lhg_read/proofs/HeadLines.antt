@@ -1,18 +1,16 @@
 -- The head of a plant is told by its tokens.
-use Rattle.std.proofs.Common.{◌≡◌, ◌<◌, ◌+◌, ◌-◌, ◌==◌, ℕ, List, [], ◌∷◌, length, map, refl, sym, ap, ◌∙◌, subst, Bool, true, false, ◌&&◌, arith, codes}
-use Rattle.std.specs.Str.{bytes_eq}
+use Rattle.std.proofs.Common.{◌≡◌, ◌+◌, ◌-◌, ◌==◌, ℕ, List, [], ◌∷◌, map, refl, sym, ap, ◌∙◌, Bool, true, false, ◌&&◌, arith, codes}
 use Rattle.std.proofs.lemmas.Bool.{eqb-true}
 use Rattle.std.proofs.lemmas.Slice.Eq.{bytes_eq-Decides}
-use Rattle.lhg_math.specs.Number.{Number, unit}
+use Rattle.lhg_math.specs.Number.{unit}
 use Rattle.lhg_math.specs.Signs.{same_number}
 use Rattle.lhg_math.specs.SignLaws.{same_is, same_number-self}
-use Rattle.lhg_math.specs.Tests.{by_bool, false_true}
+use Rattle.lhg_math.specs.Tests.{false_true}
 use Rattle.lhg_lex.specs.Lines.{lines_of}
 use Rattle.lhg_lex.specs.PlainToken.{PlainToken, word, number, sign, two_signs}
 use Rattle.lhg_lex.specs.LineTokens.{Spot}
-use Rattle.lhg_lex.specs.TextTokens.{plain_of, placed, kind_of}
+use Rattle.lhg_lex.specs.TextTokens.{plain_of, placed}
 use Rattle.lhg_lex.specs.Reading.{Reading, start_of, IsTokenLine}
-use Rattle.lhg_lex.specs.declared.tokens.Token.{Token}
 use Rattle.lhg_lex.specs.declared.tokens.Line.{Line}
 use Rattle.lhg_read.specs.Signs.{is_word}
 use Rattle.lhg_read.specs.PlantText.{said_in, IsHead}

@@ -1,15 +1,18 @@
 -- What a line says as a word is a word.
-use Rattle.std.proofs.Common.{◌≡◌, ◌<◌, ℕ, List, [], ◌∷◌, length, map, refl, sym, ap, ◌∙◌, subst, Bool, true, false, Result, Ok, Err, arith}
+use Rattle.std.proofs.Common.{◌≡◌, ℕ, List, [], ◌∷◌, map, refl, sym, ap, ◌∙◌, subst, true, Some, Result, Ok, Err}
 use Rattle.std.specs.Prelude.{slice_range}
 use Rattle.std.specs.List.{All}
 use Rattle.std.proofs.lemmas.List.Elements.{All-nil, All-cons, All-head, All-tail}
+use Rattle.std.proofs.lemmas.Option.{none-some, same_Some}
 use Rattle.lhg_math.specs.Number.{Number}
 use Rattle.lhg_math.specs.Tests.{by_bool}
+use Rattle.lhg_row.specs.Members.{AllOf}
+use Rattle.lhg_row.specs.MinusLaws.{all-append}
 use Rattle.lhg_lex.specs.PlainToken.{PlainToken, word, number, sign, two_signs}
 use Rattle.lhg_lex.specs.Word.{is_word}
 use Rattle.lhg_lex.specs.Literal.{is_number, number_of}
 use Rattle.lhg_lex.specs.Token.{said, number_said, signs_said, is_sign_byte, is_pair}
-use Rattle.lhg_lex.specs.LineTokens.{Spot, tokens_of, content_of}
+use Rattle.lhg_lex.specs.LineTokens.{Spot, Fault, tokens_of, content_of}
 use Rattle.lhg_lex.specs.LineReading.{AreSlices}
 use Rattle.lhg_lex.specs.TextTokens.{plain_of}
 use Rattle.lhg_lex.specs.Reading.{Reading, IsTokenLine}
@@ -19,6 +22,8 @@ use Rattle.lhg_lex.specs.declared.tokens.Line.{Line}
 use Rattle.lhg_lex.proofs.ReadingAnswers.{slices_of}
 use Rattle.lhg_read.specs.Lexed.{IsLexed}
 use Rattle.lhg_read.specs.PlantText.{said_in}
+use Rattle.lhg_read.specs.TokenText.{token_line, token_lines}
+use Rattle.lhg_read.proofs.Answered.{both_joined}
 
 -- a token says a word where its bytes are one
 no_word : (r : Result Number What) (w : List ℕ) → number_said r ≡ Ok (word w) → ⊥
@@ -60,3 +65,28 @@ pub line_lexed : (s : Reading) (line : Line) → IsTokenLine s line → All (λ 
 unfolding tokens_of
 line_lexed s line h =
     of_tokens s.bytes line.tokens.items (subst (λ ts. All IsLexed ts) (sym (ap (λ l. l.tokens) h.says)) (spots_lexed (content_of h.bytes) 0 h.spots (slices_of (content_of h.bytes) h.spots h.reads)))
+
+-- ---- all lines
+
+each_lexed : (tokens : List PlainToken) → All IsLexed tokens → AllOf IsLexed tokens
+each_lexed [] h = tt
+each_lexed (t ∷ tokens) h = (All-head IsLexed t tokens h, each_lexed tokens (All-tail IsLexed t tokens h))
+
+-- a line whose words are words
+abbrev pub AreLexed : List Spot → Type 0
+AreLexed line = AllOf IsLexed (said_in line)
+
+one_lexed : (line : List ℕ) (r : Result (List Spot) Fault) (tokens : List (List Spot)) → tokens_of line ≡ r → token_line r ≡ Some tokens → AllOf AreLexed tokens
+unfolding tokens_of
+one_lexed line (Ok []) tokens e f = subst (λ ts. AllOf AreLexed ts) (same_Some [] tokens f) tt
+one_lexed line (Ok (spot ∷ spots)) tokens e f =
+    subst (λ ts. AllOf AreLexed ts) (same_Some ((spot ∷ spots) ∷ []) tokens f)
+    (each_lexed (said_in (spot ∷ spots)) (spots_lexed (content_of line) 0 (spot ∷ spots) (slices_of (content_of line) (spot ∷ spots) e)), tt)
+one_lexed line (Err fault) tokens e f = absurd (none-some tokens f)
+
+-- the words of lines are words
+pub lines_lexed : (lines : List (List ℕ)) (tokens : List (List Spot)) → token_lines lines ≡ Some tokens → AllOf AreLexed tokens
+lines_lexed [] tokens e = subst (λ ts. AllOf AreLexed ts) (same_Some [] tokens e) tt
+lines_lexed (line ∷ lines) tokens e =
+    let p = both_joined (token_line (tokens_of line)) (token_lines lines) tokens e in
+    subst (λ ts. AllOf AreLexed ts) p.4 (all-append AreLexed p.0 p.1 (one_lexed line (tokens_of line) p.0 refl p.2) (lines_lexed lines p.1 p.3))

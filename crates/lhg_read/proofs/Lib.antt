@@ -1,3 +1,4 @@
+pub mod Answered
 pub mod AxisRows
 pub mod BadLines
 pub mod ChainSteps
@@ -8,6 +9,7 @@ pub mod DraftSteps
 pub mod FirstLines
 pub mod HeadLines
 pub mod LexedLines
+pub mod LineRows
 pub mod LineTaken
 pub mod ListSteps
 pub mod NoText
@@ -16,6 +18,7 @@ pub mod PairRows
 pub mod PairSteps
 pub mod PlantContinues
 pub mod PlantParts
+pub mod PlantProper
 pub mod PlantReading
 pub mod PlantRefusals
 pub mod PlantRuns
@@ -23,6 +26,7 @@ pub mod PlantStands
 pub mod PlantStates
 pub mod PlantTexts
 pub mod RefusalSteps
+pub mod SmallProper
 pub mod SumSteps
 pub mod TokenTexts
 pub mod VariableSteps

@@ -1,8 +1,7 @@
 -- A line is taken by its first token.
-use Rattle.std.proofs.Common.{◌≡◌, ◌<◌, ◌≤◌, ◌-◌, ℕ, List, [], ◌∷◌, length, take, drop, map, refl, sym, ap, ◌∙◌, Option, Some, None, arith, get_or}
+use Rattle.std.proofs.Common.{◌≡◌, ◌<◌, ◌≤◌, ◌-◌, ℕ, List, [], ◌∷◌, length, take, drop, map, refl, sym, ap, ◌∙◌, None, arith, get_or}
 use Rattle.std.specs.Option.{option_and_then}
 use Rattle.std.proofs.lemmas.List.{take_rest}
-use Rattle.lhg_lex.specs.PlainToken.{PlainToken}
 use Rattle.lhg_lex.specs.TextTokens.{plain_of}
 use Rattle.lhg_lex.specs.declared.tokens.Token.{Token}
 use Rattle.lhg_read.specs.PlantLine.{line_by, line_of}

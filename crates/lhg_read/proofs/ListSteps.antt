@@ -1,5 +1,5 @@
 -- A list of constraints is read one after another.
-use Rattle.std.proofs.Common.{◌≡◌, ◌<◌, ◌≤◌, ◌+◌, ◌-◌, ◌⊎◌, inl, inr, ℕ, List, [], ◌∷◌, ◌++◌, length, take, drop, map, refl, sym, ap, ◌∙◌, Bool, true, false, cond, Option, Some, None, arith, get_or, append_assoc, append-nil, length-append, nat_le}
+use Rattle.std.proofs.Common.{◌≡◌, ◌<◌, ◌≤◌, ◌+◌, ◌-◌, inl, inr, ℕ, List, [], ◌++◌, length, take, drop, map, refl, sym, ap, ◌∙◌, true, false, Option, Some, None, arith, append_assoc, append-nil, length-append, nat_le}
 use Rattle.std.specs.Option.{option_and_then}
 use Rattle.std.proofs.lemmas.Bool.Decides.{nat_tests}
 use Rattle.lhg_row.specs.Piece.{PlainPiece}
@@ -8,12 +8,12 @@ use Rattle.lhg_lex.specs.TextTokens.{plain_of}
 use Rattle.lhg_lex.specs.declared.tokens.Token.{Token}
 use Rattle.lhg_lex.specs.declared.tokens.Tok.{Tok}
 use Rattle.lhg_lex.specs.declared.tokens.Tok.TheVariants as tok
-use Rattle.lhg_read.specs.Cut.{Cut, cut, parts_of}
+use Rattle.lhg_read.specs.Cut.{cut, parts_of}
 use Rattle.lhg_read.specs.Options.{joined}
 use Rattle.lhg_read.specs.Signs.{is_comma}
-use Rattle.lhg_read.specs.Rows.{constraint_of, constraints_of, within_limit, list_of}
+use Rattle.lhg_read.specs.Rows.{constraint_of, constraints_of, within_limit}
 use Rattle.lhg_read.specs.declared.forms.Form.{Form}
-use Rattle.lhg_read.proofs.Cuts.{IsBlind, whole, behind, ahead, last_part, inner_part}
+use Rattle.lhg_read.proofs.Cuts.{IsBlind, ahead, last_part, inner_part}
 use Rattle.lhg_read.proofs.SumSteps.{some_or_all, a_token}
 
 comma_by_kind : (text : List ℕ) (from to : ℕ) (kind : Tok) → is_comma (plain_of text (record { kind = kind; from = from; to = to })) ≡ is_comma (plain_of [] (record { kind = kind; from = from; to = to }))

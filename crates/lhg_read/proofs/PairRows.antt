@@ -1,9 +1,9 @@
 -- The rows of a pair are those of its terms, put one after another.
-use Rattle.std.proofs.Common.{◌≡◌, ◌<◌, ◌≤◌, ◌+◌, ◌==◌, ℕ, zero, suc, List, [], ◌∷◌, ◌++◌, length, map, replicate, refl, sym, ap, ◌∙◌, subst, Bool, true, false, not, cond, ◌&&◌, ◌||◌, arith, get_or, Option, Some, None, nat_le}
-use Rattle.std.specs.Prelude.{count_by, is_some}
+use Rattle.std.proofs.Common.{◌≡◌, ◌<◌, ◌≤◌, ◌+◌, ◌==◌, ℕ, zero, suc, List, [], ◌∷◌, ◌++◌, length, map, replicate, refl, sym, ap, ◌∙◌, subst, Bool, true, false, not, cond, ◌&&◌, arith, get_or, Option, Some, None, nat_le}
+use Rattle.std.specs.Prelude.{count_by}
 use Rattle.std.specs.List.{list_all, list_any, range_with_len}
 use Rattle.std.specs.Option.{option_and_then, unwrap_or}
-use Rattle.std.proofs.lemmas.List.{length-replicate, get_or-replicate}
+use Rattle.std.proofs.lemmas.List.{length-replicate}
 use Rattle.std.proofs.lemmas.List.Folds.{list_any_at, list_any_none}
 use Rattle.std.proofs.lemmas.List.FromFn.{fill_by_all}
 use Rattle.std.proofs.lemmas.Bool.{eqb-true}
@@ -15,7 +15,7 @@ use Rattle.lhg_math.specs.Tests.{by_bool}
 use Rattle.lhg_row.specs.Row.{PlainRow}
 use Rattle.lhg_row.specs.Members.{AllOf}
 use Rattle.lhg_read.specs.Sum.{opposite}
-use Rattle.lhg_read.specs.Pair.{is_at, is_alone, factor_of, factor_in, is_proper, row_of, rows_by, pair_rows, opposite_row}
+use Rattle.lhg_read.specs.Pair.{is_at, is_alone, factor_in, is_proper, row_of, rows_by, pair_rows, opposite_row}
 use Rattle.lhg_read.specs.Collect.{Collected, none_of, with_terms, has_variable, row_from, rows_from}
 use Rattle.lhg_read.specs.declared.operators.Operator.{Operator}
 use Rattle.lhg_read.specs.declared.operators.Operator.TheVariants.{Less, AtMost, Equal, AtLeast, Greater}
@@ -53,7 +53,7 @@ found_factor n j (Times q i ∷ ts) sound h =
 found_factor n j (Alone q ∷ ts) sound h = found_factor n j ts sound.1 (let k = count-cons (is_at j) (Alone q) ts in omega (arith, k, h))
 
 -- where some term is no number, a variable has a factor that is not 0
-some_variable : (n : ℕ) (ts : List Term) → AllOf (IsSound n) ts → list_any (λ term. not (is_alone term)) ts ≡ true → (j : ℕ) × (j < n) × (is_nought (factor_in (is_at j) ts) ≡ false)
+pub some_variable : (n : ℕ) (ts : List Term) → AllOf (IsSound n) ts → list_any (λ term. not (is_alone term)) ts ≡ true → (j : ℕ) × (j < n) × (is_nought (factor_in (is_at j) ts) ≡ false)
 some_variable n [] sound e = absurd cc
 some_variable n (Times q i ∷ ts) sound e =
     (i, sound.0.0, found_factor n i (Times q i ∷ ts) sound (let k : count_by (is_at i) (Times q i ∷ ts) ≡ 1 + count_by (is_at i) ts = count-cons (is_at i) (Times q i) ts ∙ ap (λ b. cond b 1 0 + count_by (is_at i) ts) (same_eq i) in omega (arith, k)))

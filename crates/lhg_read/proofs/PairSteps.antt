@@ -1,8 +1,6 @@
 -- A pair is read sum by sum.
-use Rattle.std.proofs.Common.{◌≡◌, ◌<◌, ◌+◌, ◌*◌, ◌==◌, ℕ, List, [], ◌∷◌, ◌++◌, length, drop, map, refl, sym, ap, ◌∙◌, subst, Bool, true, false, not, cond, ◌&&◌, arith, Option, Some, None}
+use Rattle.std.proofs.Common.{◌≡◌, ◌<◌, ℕ, List, [], ◌∷◌, ◌++◌, length, drop, map, refl, sym, ap, ◌∙◌, Bool, true, false, not, cond, ◌&&◌, arith, Option, Some, None}
 use Rattle.std.specs.Option.{option_and_then, option_map}
-use Rattle.std.specs.List.{position}
-use Rattle.std.specs.Prelude.{IfSome}
 use Rattle.std.specs.Str.{bytes_eq}
 use Rattle.std.proofs.lemmas.List.Quantifiers.{position-Some}
 use Rattle.lhg_math.specs.Number.{Number, neg, nought, unit, lt}
@@ -36,7 +34,7 @@ abbrev pub Of : {A : Type 0} → (A → Type 0) → Option A → Type 0
 Of P None = Unit {0}
 Of P (Some x) = P x
 
-place_below : (w : List ℕ) (vars : List (List ℕ)) (o : Option ℕ) → place_of w vars ≡ o → Of (λ i. i < length vars) o
+pub place_below : (w : List ℕ) (vars : List (List ℕ)) (o : Option ℕ) → place_of w vars ≡ o → Of (λ i. i < length vars) o
 place_below w vars None e = tt
 place_below w vars (Some i) e = (position-Some (λ name. bytes_eq name w) vars i [] e).0
 
@@ -68,7 +66,7 @@ times_sound : (n : ℕ) (q : Number) (o : Option ℕ) → is_nought q ≡ false 
 times_sound n q None e h = tt
 times_sound n q (Some i) e h = (h, e)
 
-unit_sound : is_nought unit ≡ false
+pub unit_sound : is_nought unit ≡ false
 unit_sound = is_nought-positive unit nought_unit
 
 both : (x y : Bool) → (x && y) ≡ true → (x ≡ true) × (y ≡ true)
@@ -92,7 +90,7 @@ term_sound form vars (two_signs b c ∷ ts) = times_sound (width form vars) unit
 
 -- ---- sums are sound
 
-nought-neg : (q : Number) → is_nought (neg q) ≡ is_nought q
+pub nought-neg : (q : Number) → is_nought (neg q) ≡ is_nought q
 nought-neg q = rw (neg-lt_nought q, lt-nought_neg q) (swap (lt nought q) (lt q nought))
   where
     swap : (x y : Bool) → (not x && not y) ≡ (not y && not x)
@@ -121,7 +119,7 @@ behind_sound form vars (part ∷ parts) = consed_sound (width form vars) (is_min
 from_sound : (form : Form) (vars : List (List ℕ)) (minus : Bool) (c : Cut PlainToken) → Of (AllOf (IsSound (width form vars))) (terms_from form vars minus c)
 from_sound form vars minus c = consed_sound (width form vars) minus (term_of form vars c.first) (terms_behind form vars c.others) (term_sound form vars c.first) (behind_sound form vars c.others)
 
-sum_sound : (form : Form) (vars : List (List ℕ)) (tokens : List PlainToken) → Of (AllOf (IsSound (width form vars))) (sum_of form vars tokens)
+pub sum_sound : (form : Form) (vars : List (List ℕ)) (tokens : List PlainToken) → Of (AllOf (IsSound (width form vars))) (sum_of form vars tokens)
 unfolding sum_of
 sum_sound form vars tokens =
     by_bool (begins_with_minus tokens)
@@ -130,11 +128,11 @@ sum_sound form vars tokens =
 
 -- ---- the two sums, one after the other
 
-all_opposite : (n : ℕ) (ts : List Term) → AllOf (IsSound n) ts → AllOf (IsSound n) (map opposite ts)
+pub all_opposite : (n : ℕ) (ts : List Term) → AllOf (IsSound n) ts → AllOf (IsSound n) (map opposite ts)
 all_opposite n [] h = tt
 all_opposite n (t ∷ ts) h = (opposite_sound n t h.0, all_opposite n ts h.1)
 
-all_joined : (n : ℕ) (xs ys : List Term) → AllOf (IsSound n) xs → AllOf (IsSound n) ys → AllOf (IsSound n) (xs ++ ys)
+pub all_joined : (n : ℕ) (xs ys : List Term) → AllOf (IsSound n) xs → AllOf (IsSound n) ys → AllOf (IsSound n) (xs ++ ys)
 all_joined n [] ys h k = k
 all_joined n (x ∷ xs) ys h k = (h.0, all_joined n xs ys h.1 k)
 

@@ -1,5 +1,5 @@
 -- From each state of the reader some further lines make a plant.
-use Rattle.std.proofs.Common.{◌≡◌, ◌<◌, ◌≤◌, ◌+◌, ℕ, List, [], ◌∷◌, ◌++◌, length, map, refl, sym, ap, ◌∙◌, subst, Bool, true, false, cond, Option, Some, None, Ok, arith, append_assoc, append-nil, length-append, codes}
+use Rattle.std.proofs.Common.{◌≡◌, ◌≤◌, ℕ, List, [], ◌∷◌, ◌++◌, length, map, refl, sym, ap, ◌∙◌, subst, true, false, cond, Some, None, Ok, arith, append_assoc, append-nil, length-append, codes}
 use Rattle.std.specs.Option.{option_and_then}
 use Rattle.std.proofs.lemmas.List.{length-map}
 use Rattle.lhg_math.specs.Number.{unit}
@@ -7,16 +7,13 @@ use Rattle.lhg_math.specs.Tests.{false_true}
 use Rattle.lhg_lex.specs.PlainToken.{PlainToken, word, number}
 use Rattle.lhg_lex.specs.Longest.{longest}
 use Rattle.lhg_lex.specs.LineTokens.{Spot, tokens_of}
-use Rattle.lhg_plant.specs.Plant.{PlainPlant}
-use Rattle.lhg_read.specs.Names.{vars_of}
 use Rattle.lhg_read.specs.Options.{joined}
-use Rattle.lhg_read.specs.PlantLine.{PlantLine, loc, end, line_of}
+use Rattle.lhg_read.specs.PlantLine.{line_of}
 use Rattle.lhg_read.specs.PlantText.{location_of, said_in, IsHead, IsPlant, IsSomePlant}
-use Rattle.lhg_read.specs.PlantSteps.{PlainDraft, empty_draft, is_nil, step, taken, all_taken, plant_with}
+use Rattle.lhg_read.specs.PlantSteps.{PlainDraft, empty_draft, is_nil, taken, all_taken, plant_with}
 use Rattle.lhg_read.specs.TokenText.{token_line, token_lines}
 use Rattle.lhg_read.specs.Begun.{IsBegun}
 use Rattle.lhg_read.proofs.PlantParts.{map-append, not_nil}
-use Rattle.lhg_read.proofs.PlantStands.{Stands, Ends}
 use Rattle.lhg_read.proofs.PlantStates.{State, nothing, stands, ends, states, going_on}
 use Rattle.lhg_read.proofs.PlantTexts.{Say, say_all, plant_of_begun}
 use Rattle.lhg_read.proofs.PlantRefusals.{all_taken-append}

@@ -1,10 +1,9 @@
 -- A plant is read line by line: what holds between two lines, and at each end.
-use Rattle.std.proofs.Common.{◌≡◌, ◌<◌, ◌≤◌, ◌+◌, ◌-◌, ◌⊎◌, inl, inr, ℕ, List, [], ◌∷◌, ◌++◌, length, drop, map, refl, sym, ap, ◌∙◌, subst, Bool, true, false, Option, Some, None, Result, Ok, Err, arith, append_assoc, length-append, vec_len}
+use Rattle.std.proofs.Common.{◌≡◌, ◌<◌, ◌≤◌, ◌+◌, ◌-◌, inl, inr, ℕ, List, [], ◌∷◌, ◌++◌, length, map, refl, sym, ap, ◌∙◌, subst, true, false, Option, Some, None, arith}
 use Rattle.std.specs.List.{All}
-use Rattle.std.proofs.lemmas.List.{length-map, length-drop}
+use Rattle.std.proofs.lemmas.List.{length-drop}
 use Rattle.lhg_lex.specs.Lines.{lines_of}
-use Rattle.lhg_lex.specs.PlainToken.{PlainToken}
-use Rattle.lhg_lex.specs.LineTokens.{Spot, tokens_of, IsBlankLine}
+use Rattle.lhg_lex.specs.LineTokens.{Spot}
 use Rattle.lhg_lex.specs.TextTokens.{plain_of}
 use Rattle.lhg_lex.specs.Reading.{Reading, left_of, IsTokenLine}
 use Rattle.lhg_lex.specs.declared.stops.ReadStop.{ReadStop}
@@ -12,9 +11,11 @@ use Rattle.lhg_lex.specs.declared.stops.ReadStop.TheVariants.{Bad, Memory}
 use Rattle.lhg_lex.specs.declared.stops.What.TheVariants.{NotHere}
 use Rattle.lhg_lex.specs.declared.tokens.Line.{Line}
 use Rattle.lhg_lex.specs.declared.tokens.Token.{Token}
+use Rattle.lhg_plant.specs.Printable.{IsPrintable}
+use Rattle.lhg_plant.specs.Proper.{IsProper}
 use Rattle.lhg_read.specs.Names.{vars_of}
 use Rattle.lhg_read.specs.PlantText.{said_in, IsHead, IsPlant, IsSomePlant}
-use Rattle.lhg_read.specs.PlantSteps.{PlainDraft, empty_draft, taken, all_taken, plant_with}
+use Rattle.lhg_read.specs.PlantSteps.{PlainDraft, empty_draft, taken, plant_with}
 use Rattle.lhg_read.specs.Begun.{IsBegun}
 use Rattle.lhg_read.specs.HeadTest.{head_test}
 use Rattle.lhg_read.specs.Lexed.{IsLexed}
@@ -23,8 +24,9 @@ use Rattle.lhg_read.specs.TokenText.{token_lines, IsTextBy, IsReadTo, ReadsText,
 use Rattle.lhg_read.specs.declared.refusal.Refusal.{Refusal}
 use Rattle.lhg_read.specs.declared.refusal.Refusal.TheVariants as refusal
 use Rattle.lhg_read.proofs.HeadLines.{head_true, head_false}
-use Rattle.lhg_read.proofs.LexedLines.{line_lexed}
+use Rattle.lhg_read.proofs.LexedLines.{line_lexed, lines_lexed}
 use Rattle.lhg_read.proofs.PlantTexts.{plant_of_begun}
+use Rattle.lhg_read.proofs.PlantProper.{plant_proper, plant_printable}
 use Rattle.lhg_read.proofs.PlantRefusals.{no_head, no_vars, no_line, none_at_start, none_at_head, none_yet}
 use Rattle.lhg_read.proofs.PlantContinues.{from_nothing, from_head, from_begun, begun_more, begun_few}
 use Rattle.lhg_read.proofs.TokenTexts.{Reads, EndsFull, NoneYet, CanGoOn, reads_nothing, reads_more, refused_line, faulty_line, missing_line}
@@ -162,6 +164,13 @@ module _ (old s : Reading) (vars : List (List ℕ)) (d : PlainDraft) (b : Betwee
       reads_more old s b.0 line new b.1 h e,
       begun_more b.0 vars d x h.spots b.2 going (ap (taken vars d) (sym (said_after s line new h e tokens f)) ∙ k),
     )
+
+  -- at the end the plant is proper, and it can be printed
+  pub read_proper : d.ended ≡ true → IsProper (plant_with vars d)
+  read_proper ended = plant_proper b.0 (plant_with vars d) (lines_lexed b.1.front b.0 b.1.are) (plant_of_begun b.0 vars d b.2 ended)
+
+  pub read_printable : d.ended ≡ true → IsPrintable (plant_with vars d)
+  read_printable ended = plant_printable b.0 (plant_with vars d) (lines_lexed b.1.front b.0 b.1.are) (plant_of_begun b.0 vars d b.2 ended)
 
   -- the end
   pub plant_read : d.ended ≡ true → ReadsText (λ tokens. IsPlant tokens (plant_with vars d)) old s

@@ -1,7 +1,7 @@
 -- Where the lines so far cannot go on.
 use Rattle.std.proofs.Common.{◌≡◌, ℕ, List, [], ◌∷◌, ◌++◌, map, refl, sym, ap, ◌∙◌, subst, Bool, true, false, cond, Option, Some, None}
 use Rattle.std.specs.Option.{option_and_then}
-use Rattle.lhg_math.specs.Tests.{by_bool, false_true}
+use Rattle.lhg_math.specs.Tests.{false_true}
 use Rattle.lhg_lex.specs.PlainToken.{PlainToken}
 use Rattle.lhg_lex.specs.LineTokens.{Spot}
 use Rattle.lhg_plant.specs.Plant.{PlainPlant}
@@ -10,7 +10,7 @@ use Rattle.lhg_read.specs.PlantText.{said_in, IsHead, IsPlant, IsSomePlant}
 use Rattle.lhg_read.specs.PlantSteps.{PlainDraft, empty_draft, taken, all_taken, plant_with}
 use Rattle.lhg_read.specs.Begun.{IsBegun}
 use Rattle.lhg_read.proofs.PlantParts.{map-append}
-use Rattle.lhg_read.proofs.PlantStates.{going_on, ended_none}
+use Rattle.lhg_read.proofs.PlantStates.{ended_none}
 use Rattle.lhg_read.proofs.PlantTexts.{begun_of_plant}
 
 none_some : {P : Type 0} (e : PlainDraft) → (let x : Option PlainDraft = None in x ≡ Some e) → P

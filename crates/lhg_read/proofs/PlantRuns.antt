@@ -1,15 +1,13 @@
 -- The lines of a plant are taken one after another.
-use Rattle.std.proofs.Common.{◌≡◌, ◌<◌, ◌≤◌, ◌+◌, ℕ, suc, List, [], ◌∷◌, ◌++◌, length, map, refl, sym, ap, ◌∙◌, subst, Bool, true, false, not, cond, ◌&&◌, Option, Some, None, arith, append_assoc, append-nil, length-append}
+use Rattle.std.proofs.Common.{◌≡◌, ◌<◌, ◌≤◌, ◌+◌, ℕ, suc, List, [], ◌∷◌, ◌++◌, length, map, refl, sym, ap, ◌∙◌, Bool, true, false, not, cond, ◌&&◌, Some, None, arith, append_assoc, append-nil, length-append}
 use Rattle.std.specs.Prelude.{nat_lt}
 use Rattle.std.specs.List.{flat_map}
 use Rattle.std.specs.Option.{option_and_then, option_map}
-use Rattle.std.proofs.lemmas.List.{length-map}
 use Rattle.std.proofs.lemmas.Bool.Decides.{nat_tests}
 use Rattle.lhg_row.specs.Piece.{PlainPiece}
 use Rattle.lhg_row.specs.Members.{AllOf}
 use Rattle.lhg_plant.specs.Plant.{PlainLocation, PlainSwitch}
-use Rattle.lhg_plant.specs.Still.{still_rows}
-use Rattle.lhg_read.specs.Names.{is_among, differ_from, all_differ}
+use Rattle.lhg_plant.specs.Differ.{is_among, differ_from, all_differ}
 use Rattle.lhg_read.specs.PlantLine.{BlockLine, inv, flow, safe, WrittenSwitch, PlantLine, loc, block, switch, end}
 use Rattle.lhg_read.specs.PlantText.{Block, invs_of, flows_of, safes_of, rows_or, IsBlock, location_of, switch_at, block_lines, plant_lines}
 use Rattle.lhg_read.specs.PlantSteps.{PlainDraft, empty_draft, is_nil, with_last, safe_lines, loc_names, switch_names, is_open, begun, with_inv, with_flow, with_safe, may_begin, may_switch, step, steps}

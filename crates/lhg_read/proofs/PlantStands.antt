@@ -1,21 +1,19 @@
 -- Lines that are taken one after another are a plant once the end is taken.
-use Rattle.std.proofs.Common.{◌≡◌, ◌<◌, ◌≤◌, ◌+◌, ◌⊎◌, inl, inr, ℕ, suc, List, [], ◌∷◌, ◌++◌, length, map, refl, sym, ap, ◌∙◌, subst, Bool, true, false, not, cond, ◌&&◌, Option, Some, None, arith, append_assoc, append-nil, length-append}
+use Rattle.std.proofs.Common.{◌≡◌, ◌<◌, ◌≤◌, ◌+◌, ℕ, List, [], ◌∷◌, ◌++◌, length, map, refl, sym, ap, ◌∙◌, Bool, true, false, not, ◌&&◌, Some, arith, append_assoc, append-nil, length-append}
 use Rattle.std.specs.Prelude.{nat_lt}
 use Rattle.std.specs.List.{flat_map}
-use Rattle.std.specs.Option.{option_and_then, option_map}
 use Rattle.std.proofs.lemmas.Grind.{flat_map-append}
 use Rattle.std.proofs.lemmas.List.{length-map}
 use Rattle.std.proofs.lemmas.Bool.Decides.{nat_tests}
-use Rattle.lhg_math.specs.Tests.{by_bool}
 use Rattle.lhg_row.specs.Piece.{PlainPiece}
 use Rattle.lhg_row.specs.Members.{AllOf}
 use Rattle.lhg_plant.specs.Plant.{PlainLocation, PlainSwitch}
-use Rattle.lhg_read.specs.Names.{is_among, all_differ}
+use Rattle.lhg_plant.specs.Differ.{is_among, all_differ}
 use Rattle.lhg_read.specs.PlantLine.{BlockLine, inv, flow, safe, WrittenSwitch, PlantLine, loc, block, switch, end}
 use Rattle.lhg_read.specs.PlantText.{Block, invs_of, flows_of, safes_of, IsBlock, location_of, switch_at, block_lines, plant_lines}
-use Rattle.lhg_read.specs.PlantSteps.{PlainDraft, empty_draft, is_nil, with_last, safe_lines, loc_names, switch_names, is_open, begun, with_inv, with_flow, with_safe, may_begin, may_switch, step, steps}
+use Rattle.lhg_read.specs.PlantSteps.{PlainDraft, empty_draft, is_nil, with_last, safe_lines, loc_names, switch_names, is_open, begun, with_inv, with_flow, with_safe, may_begin, may_switch}
 use Rattle.lhg_read.proofs.VariableSteps.{differ_more}
-use Rattle.lhg_read.proofs.PlantParts.{map-append, with_last-append, safe_lines-append, not_nil, nil_is, all_push, both, not_true, and_line, block_lines-more, invs-append, flows-append, safes-append, inv_more, flow_more, safe_more, names_of_blocks, names_of_switches}
+use Rattle.lhg_read.proofs.PlantParts.{map-append, with_last-append, safe_lines-append, nil_is, all_push, both, not_true, and_line, block_lines-more, invs-append, flows-append, safes-append, inv_more, flow_more, safe_more, names_of_blocks, names_of_switches}
 
 -- the names of the locations so far
 abbrev pub names_so_far : List Block → Block → List (List ℕ)

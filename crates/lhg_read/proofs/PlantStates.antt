@@ -1,13 +1,12 @@
 -- What lines that are taken have said: nothing, the beginning of a plant, or a plant.
-use Rattle.std.proofs.Common.{◌≡◌, ℕ, List, [], ◌∷◌, ◌++◌, length, map, refl, sym, ap, ◌∙◌, subst, Bool, true, false, not, cond, ◌&&◌, Option, Some, None, append_assoc, append-nil}
+use Rattle.std.proofs.Common.{◌≡◌, ℕ, List, [], ◌∷◌, ◌++◌, refl, sym, ap, ◌∙◌, subst, Bool, true, false, not, cond, ◌&&◌, Option, Some, None, append_assoc, append-nil}
 use Rattle.std.specs.Prelude.{nat_lt}
 use Rattle.std.specs.Option.{option_and_then, option_map}
 use Rattle.lhg_math.specs.Tests.{by_bool}
-use Rattle.lhg_row.specs.Piece.{PlainPiece}
 use Rattle.lhg_plant.specs.Plant.{PlainSwitch}
-use Rattle.lhg_read.specs.PlantLine.{BlockLine, inv, flow, safe, WrittenSwitch, PlantLine, loc, block, switch, end}
+use Rattle.lhg_read.specs.PlantLine.{inv, flow, safe, PlantLine, loc, block, switch, end}
 use Rattle.lhg_read.specs.PlantText.{switch_at}
-use Rattle.lhg_read.specs.PlantSteps.{PlainDraft, empty_draft, is_nil, with_last, safe_lines, loc_names, is_open, begun, with_inv, with_flow, with_safe, may_begin, may_switch, step, steps}
+use Rattle.lhg_read.specs.PlantSteps.{PlainDraft, empty_draft, is_nil, safe_lines, loc_names, is_open, begun, may_begin, may_switch, step, steps}
 use Rattle.lhg_read.proofs.PlantParts.{not_nil}
 use Rattle.lhg_read.proofs.PlantStands.{Stands, Ends, begins_first, begins_next, inv_line, flow_line, safe_line, switch_line, end_line}
 

@@ -1,19 +1,15 @@
 -- The two forms of the grammar of plants agree.
-use Rattle.std.proofs.Common.{◌≡◌, ◌<◌, ℕ, List, [], ◌∷◌, ◌++◌, length, map, refl, sym, ap, ◌∙◌, subst, Bool, true, false, cond, Option, Some, None}
+use Rattle.std.proofs.Common.{◌≡◌, ℕ, List, [], ◌∷◌, length, map, refl, sym, ap, ◌∙◌, true, false, cond, Option, Some, None}
 use Rattle.std.specs.Option.{option_and_then}
 use Rattle.lhg_math.specs.Tests.{by_bool, false_true}
-use Rattle.lhg_lex.specs.PlainToken.{PlainToken}
 use Rattle.lhg_lex.specs.LineTokens.{Spot}
 use Rattle.lhg_plant.specs.Plant.{PlainLocation, PlainSwitch, PlainPlant}
-use Rattle.lhg_read.specs.Names.{vars_of}
-use Rattle.lhg_read.specs.PlantLine.{WrittenSwitch, PlantLine, line_of}
-use Rattle.lhg_read.specs.PlantText.{Block, location_of, plant_lines, said_in, IsHead, IsPlant}
-use Rattle.lhg_read.specs.PlantSteps.{PlainDraft, empty_draft, step, steps, taken, all_taken, plant_with}
+use Rattle.lhg_read.specs.PlantLine.{PlantLine, line_of}
+use Rattle.lhg_read.specs.PlantText.{plant_lines, said_in, IsPlant}
+use Rattle.lhg_read.specs.PlantSteps.{PlainDraft, empty_draft, step, steps, all_taken, plant_with}
 use Rattle.lhg_read.specs.Begun.{IsBegun}
-use Rattle.lhg_read.proofs.PlantParts.{map-append}
-use Rattle.lhg_read.proofs.PlantStands.{Stands, Ends}
 use Rattle.lhg_read.proofs.PlantStates.{State, nothing, stands, ends, states, going_on, ended_none}
-use Rattle.lhg_read.proofs.PlantRuns.{IsWhole, plant_taken}
+use Rattle.lhg_read.proofs.PlantRuns.{plant_taken}
 
 none_some : {P : Type 0} (e : PlainDraft) → (let x : Option PlainDraft = None in x ≡ Some e) → P
 none_some e h = absurd cc

@@ -1,7 +1,7 @@
 -- The terms of a sum are put one after another.
 use Rattle.std.proofs.Common.{◌≡◌, ◌<◌, ◌≤◌, ◌+◌, ◌-◌, ◌⊎◌, inl, inr, ℕ, get_or, take, arith, List, [], ◌∷◌, length, drop, map, refl, sym, ap, ◌∙◌, Bool, true, false, Option, Some, None}
 use Rattle.std.specs.Option.{option_and_then, option_map}
-use Rattle.lhg_lex.specs.PlainToken.{PlainToken, word, number, sign, two_signs}
+use Rattle.lhg_lex.specs.PlainToken.{PlainToken}
 use Rattle.lhg_lex.specs.TextTokens.{plain_of}
 use Rattle.lhg_lex.specs.declared.tokens.Token.{Token}
 use Rattle.lhg_lex.specs.declared.tokens.Tok.{Tok}
@@ -10,8 +10,8 @@ use Rattle.lhg_read.specs.Cut.{Cut, cut}
 use Rattle.lhg_read.specs.Options.{consed}
 use Rattle.lhg_read.specs.Signs.{is_minus, is_plus_or_minus}
 use Rattle.lhg_read.specs.Term.{term_of}
-use Rattle.lhg_read.specs.Sum.{signed, terms_from, terms_behind, begins_with_minus, sum_of}
-use Rattle.lhg_read.specs.Collect.{Collected, with_term, with_terms, with_turned, Takes}
+use Rattle.lhg_read.specs.Sum.{signed, terms_from, begins_with_minus, sum_of}
+use Rattle.lhg_read.specs.Collect.{Collected, with_term, with_terms, with_turned}
 use Rattle.lhg_read.specs.declared.forms.Form.{Form}
 use Rattle.lhg_read.specs.declared.terms.Term.{Term}
 use Rattle.lhg_read.proofs.Cuts.{IsBlind, whole, behind, ahead, last_part, inner_part}

@@ -1,17 +1,17 @@
 -- Reading a text line by line against a grammar that speaks of tokens.
-use Rattle.std.proofs.Common.{◌≡◌, ◌<◌, ◌≤◌, ◌+◌, ◌-◌, ◌⊎◌, inl, inr, ℕ, zero, suc, List, [], ◌∷◌, ◌++◌, length, take, drop, map, refl, sym, ap, ◌∙◌, subst, Bool, true, false, Option, Some, None, Result, Ok, Err, arith, append_assoc, append-nil, length-append, take_at, take_all}
+use Rattle.std.proofs.Common.{◌≡◌, ◌<◌, ◌≤◌, ◌+◌, ◌-◌, ◌⊎◌, inl, inr, ℕ, zero, suc, List, [], ◌∷◌, ◌++◌, length, take, drop, refl, sym, ap, ◌∙◌, subst, Option, Some, None, Result, Ok, arith, append_assoc, append-nil, length-append, take_at, take_all}
 use Rattle.std.specs.Prelude.{slice_get}
 use Rattle.std.specs.List.{AllByRecursion}
 use Rattle.std.proofs.lemmas.List.{length-drop, take-append-le, take-append-drop}
 use Rattle.lhg_lex.specs.Lines.{lines_of}
 use Rattle.lhg_lex.specs.LineTokens.{Spot, Fault, tokens_of, IsBlankLine}
-use Rattle.lhg_lex.specs.FirstBad.{CanStand, IsFirstBad}
+use Rattle.lhg_lex.specs.FirstBad.{CanStand}
 use Rattle.lhg_lex.specs.Reading.{Reading, left_of, IsNext, IsAtEnd, IsTokenLine, IsBadLine}
 use Rattle.lhg_lex.specs.declared.tokens.Line.{Line}
 use Rattle.lhg_lex.specs.declared.stops.What.{What}
 use Rattle.lhg_lex.specs.declared.stops.What.TheVariants.{NotHere}
 use Rattle.lhg_read.specs.Options.{joined}
-use Rattle.lhg_read.specs.TokenText.{token_line, token_lines, IsTextBy, IsReadTo, ReadsText, fault_in, fault_at, IsFirstFault}
+use Rattle.lhg_read.specs.TokenText.{token_line, token_lines, IsTextBy, IsReadTo, fault_in, fault_at, IsFirstFault}
 
 -- ---- lines and their tokens
 

@@ -1,5 +1,5 @@
 -- Variables are read one after another.
-use Rattle.std.proofs.Common.{◌≡◌, ◌<◌, ◌≤◌, ◌+◌, ℕ, suc, List, [], ◌∷◌, ◌++◌, length, drop, map, refl, sym, ap, ◌∙◌, Bool, true, false, not, cond, ◌&&◌, Option, Some, None, arith, get_or, append_assoc, append-nil, length-append, nat_le, add-one}
+use Rattle.std.proofs.Common.{◌≡◌, ◌<◌, ◌≤◌, ◌+◌, ℕ, suc, List, [], ◌∷◌, ◌++◌, length, drop, map, refl, sym, ap, ◌∙◌, Bool, true, false, not, cond, ◌&&◌, Option, Some, None, arith, get_or, append_assoc, append-nil, length-append, nat_le}
 use Rattle.std.specs.Option.{option_and_then}
 use Rattle.std.proofs.Math.Seq.{drop-cons}
 use Rattle.std.proofs.lemmas.Bool.Decides.{nat_tests}
@@ -7,7 +7,8 @@ use Rattle.lhg_lex.specs.PlainToken.{PlainToken}
 use Rattle.lhg_lex.specs.TextTokens.{plain_of}
 use Rattle.lhg_lex.specs.declared.tokens.Token.{Token}
 use Rattle.lhg_read.specs.Options.{consed}
-use Rattle.lhg_read.specs.Names.{variable_name, variable_names, is_among, differ_from, all_differ, proper_variables}
+use Rattle.lhg_plant.specs.Differ.{is_among, differ_from, all_differ}
+use Rattle.lhg_read.specs.Names.{variable_name, variable_names, proper_variables}
 
 -- the variables of further tokens, behind those that are read
 abbrev pub further : List (List ℕ) → List PlainToken → Option (List (List ℕ))

@@ -1,10 +1,7 @@
 -- Which tokens may lines give?
-use Rattle.std.specs.Prelude.{◌≡◌, true, List}
-use Rattle.std.specs.List.{All}
+use Rattle.std.specs.Prelude.{◌≡◌, true}
 use Rattle.lhg_lex.specs.PlainToken.{PlainToken, word, number, sign, two_signs}
-use Rattle.lhg_lex.specs.TextTokens.{plain_of}
 use Rattle.lhg_lex.specs.Word.{is_word}
-use Rattle.lhg_lex.specs.declared.tokens.Token.{Token}
 
 -- what is said as a word is a word
 abbrev pub IsLexed : PlainToken → Type 0

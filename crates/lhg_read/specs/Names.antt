@@ -1,19 +1,16 @@
 -- Which tokens are names, and which lists of names are variables?
-use Rattle.std.specs.Prelude.{ℕ, length, Bool, true, false, not, ◌&&◌, ◌||◌, nat_le, if◌then◌else◌, List, [], ◌∷◌, ◌++◌, Option, Some, None, codes}
-use Rattle.std.specs.List.{list_any}
+use Rattle.std.specs.Prelude.{ℕ, length, Bool, ◌&&◌, ◌||◌, nat_le, if◌then◌else◌, List, [], ◌∷◌, Option, Some, None, codes}
 use Rattle.std.specs.Option.{option_and_then}
 use Rattle.std.specs.Str.{bytes_eq}
 use Rattle.lhg_lex.specs.PlainToken.{PlainToken, word}
+use Rattle.lhg_plant.specs.Differ.{all_differ}
+use Rattle.lhg_plant.specs.Limits.{most_name_bytes, most_variables}
 use Rattle.lhg_read.specs.Options.{consed}
 use Rattle.lhg_read.specs.Signs.{is_word}
 
--- how many bytes a name may have
-abbrev pub name_bytes : ℕ
-name_bytes = 32
-
 -- a name: a word that is not too long
 abbrev pub name_of : PlainToken → Option (List ℕ)
-name_of (word w) = if nat_le (length w) name_bytes then Some w else None
+name_of (word w) = if nat_le (length w) most_name_bytes then Some w else None
 name_of token = None
 
 -- one name and nothing else
@@ -33,23 +30,6 @@ variable_name token = option_and_then (λ w. if is_taken w then None else Some w
 abbrev pub variable_names : List PlainToken → Option (List (List ℕ))
 variable_names [] = Some []
 variable_names (token ∷ tokens) = consed (variable_name token) (variable_names tokens)
-
--- the bytes are among the names
-abbrev pub is_among : List ℕ → List (List ℕ) → Bool
-is_among w names = list_any (λ name. bytes_eq name w) names
-
--- each name differs from all before it, and from those of the first list
-abbrev pub differ_from : List (List ℕ) → List (List ℕ) → Bool
-differ_from before [] = true
-differ_from before (name ∷ names) = not (is_among name before) && differ_from (before ++ name ∷ []) names
-
--- no name stands twice
-abbrev pub all_differ : List (List ℕ) → Bool
-all_differ names = differ_from [] names
-
--- how many variables a plant may have
-abbrev pub most_variables : ℕ
-most_variables = 6
 
 -- the variables, where there is one or more, not too many, and all different
 abbrev pub proper_variables : List (List ℕ) → Option (List (List ℕ))

@@ -1,5 +1,5 @@
 -- How are lists that are read in parts put together, where each part may be none?
-use Rattle.std.specs.Prelude.{List, [], ◌∷◌, ◌++◌, Option, Some, None}
+use Rattle.std.specs.Prelude.{List, ◌∷◌, ◌++◌, Option, Some, None}
 
 -- one member more in front
 abbrev pub consed : {A : Type 0} → Option A → Option (List A) → Option (List A)

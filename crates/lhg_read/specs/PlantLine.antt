@@ -1,8 +1,8 @@
 -- What does a line of a plant say, once the variables are known?
-use Rattle.std.specs.Prelude.{ℕ, Bool, if◌then◌else◌, List, [], ◌∷◌, Option, Some, None, codes}
+use Rattle.std.specs.Prelude.{ℕ, if◌then◌else◌, List, [], ◌∷◌, Option, Some, None, codes}
 use Rattle.std.specs.Option.{option_and_then, option_map}
 use Rattle.lhg_row.specs.Piece.{PlainPiece}
-use Rattle.lhg_lex.specs.PlainToken.{PlainToken, word}
+use Rattle.lhg_lex.specs.PlainToken.{PlainToken}
 use Rattle.lhg_plant.specs.declared.plants.Side.{Side}
 use Rattle.lhg_plant.specs.declared.plants.Side.TheVariants.{Ctl, Env}
 use Rattle.lhg_read.specs.Names.{name_of, one_name}

@@ -3,11 +3,12 @@ use Rattle.std.specs.Prelude.{ℕ, length, Bool, true, false, not, ◌&&◌, nat
 use Rattle.std.specs.Option.{option_and_then, option_map}
 use Rattle.lhg_row.specs.Piece.{PlainPiece}
 use Rattle.lhg_lex.specs.PlainToken.{PlainToken}
+use Rattle.lhg_plant.specs.Differ.{is_among}
+use Rattle.lhg_plant.specs.Limits.{most_safe_lines, most_locations, most_switches}
 use Rattle.lhg_plant.specs.Plant.{PlainLocation, PlainSwitch, PlainPlant}
 use Rattle.lhg_plant.specs.Still.{still_rows}
-use Rattle.lhg_read.specs.Names.{is_among}
-use Rattle.lhg_read.specs.PlantLine.{BlockLine, inv, flow, safe, WrittenSwitch, PlantLine, loc, block, switch, end, line_of}
-use Rattle.lhg_read.specs.PlantText.{switch_at, most_safe_lines, most_locations, most_switches}
+use Rattle.lhg_read.specs.PlantLine.{inv, flow, safe, PlantLine, loc, block, switch, end, line_of}
+use Rattle.lhg_read.specs.PlantText.{switch_at}
 
 -- what is read so far: the locations, of which the last one is open; whether it has an `inv` and a `flow` line; the switches;
 -- and whether the text has ended

@@ -1,5 +1,5 @@
 -- Which lines are a plant, and which plant do they say?
-use Rattle.std.specs.Prelude.{◌≡◌, ℕ, ◌+◌, ◌<◌, ◌≤◌, length, true, List, [], ◌∷◌, ◌++◌, map, Option, Some, None, codes}
+use Rattle.std.specs.Prelude.{◌≡◌, ℕ, ◌+◌, ◌<◌, ◌≤◌, length, true, List, [], ◌∷◌, ◌++◌, map, Option, Some, codes}
 use Rattle.std.specs.List.{flat_map}
 use Rattle.std.specs.Option.{option_and_then, option_map}
 use Rattle.lhg_math.specs.Number.{unit}
@@ -7,9 +7,11 @@ use Rattle.lhg_row.specs.Piece.{PlainPiece}
 use Rattle.lhg_row.specs.Members.{AllOf}
 use Rattle.lhg_lex.specs.PlainToken.{PlainToken, word, number}
 use Rattle.lhg_lex.specs.LineTokens.{Spot}
+use Rattle.lhg_plant.specs.Differ.{all_differ}
+use Rattle.lhg_plant.specs.Limits.{most_safe_lines, most_locations, most_switches}
 use Rattle.lhg_plant.specs.Plant.{PlainLocation, PlainSwitch, PlainPlant}
 use Rattle.lhg_plant.specs.Still.{still_rows}
-use Rattle.lhg_read.specs.Names.{vars_of, all_differ}
+use Rattle.lhg_read.specs.Names.{vars_of}
 use Rattle.lhg_read.specs.PlantLine.{BlockLine, inv, flow, safe, WrittenSwitch, PlantLine, loc, block, switch, end, line_of}
 use Rattle.lhg_read.specs.Term.{place_of}
 use Rattle.lhg_read.specs.TokenText.{IsTextBy}
@@ -41,10 +43,6 @@ safes_of [] = []
 safes_of (inv rows ∷ lines) = safes_of lines
 safes_of (flow rows ∷ lines) = safes_of lines
 safes_of (safe rows ∷ lines) = rows ∷ safes_of lines
-
--- how many `safe` lines a location may have
-abbrev pub most_safe_lines : ℕ
-most_safe_lines = 64
 
 -- at most one `inv` line, at most one `flow` line, and not too many `safe` lines
 pub record IsBlock (b : Block) : Type 0 where
@@ -86,13 +84,6 @@ pub record IsHead (line : List Spot) : Type 0 where
   pub to : ℕ
   pub at : ℕ
   pub is : line ≡ record { says = word (codes "lhg"); from = from; to = to } ∷ record { says = number unit; from = at; to = at + 1 } ∷ []
-
--- how many locations and switches a plant may have
-abbrev pub most_locations : ℕ
-most_locations = 64
-
-abbrev pub most_switches : ℕ
-most_switches = 256
 
 -- lines with these tokens are a plant: the head, the variables, the blocks, the switches and the end
 pub record IsPlant (lines : List (List Spot)) (p : PlainPlant) : Type 0 where

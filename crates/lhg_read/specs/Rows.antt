@@ -2,9 +2,10 @@
 use Rattle.std.specs.Prelude.{ℕ, length, Bool, true, false, ◌&&◌, nat_le, if◌then◌else◌, List, [], ◌∷◌, Option, Some, None, codes}
 use Rattle.std.specs.Option.{option_and_then}
 use Rattle.lhg_row.specs.Piece.{PlainPiece}
+use Rattle.lhg_plant.specs.Limits.{most_line_rows}
 use Rattle.lhg_plant.specs.Still.{still_rows}
 use Rattle.lhg_lex.specs.PlainToken.{PlainToken}
-use Rattle.lhg_read.specs.Cut.{Cut, cut, parts_of}
+use Rattle.lhg_read.specs.Cut.{cut, parts_of}
 use Rattle.lhg_read.specs.Keep.{keep_rows}
 use Rattle.lhg_read.specs.Options.{joined}
 use Rattle.lhg_read.specs.Pair.{pair_of}
@@ -41,13 +42,9 @@ abbrev pub constraints_of : Form → List (List ℕ) → List (List PlainToken) 
 constraints_of form vars [] = Some []
 constraints_of form vars (part ∷ parts) = joined (constraint_of form vars part) (constraints_of form vars parts)
 
--- how many rows a line may give
-abbrev pub line_rows : ℕ
-line_rows = 64
-
 -- the rows, where they are not too many
 abbrev pub within_limit : PlainPiece → Option PlainPiece
-within_limit rows = if nat_le (length rows) line_rows then Some rows else None
+within_limit rows = if nat_le (length rows) most_line_rows then Some rows else None
 
 -- a list of constraints separated by `,`
 abbrev pub list_of : Form → List (List ℕ) → List PlainToken → Option PlainPiece

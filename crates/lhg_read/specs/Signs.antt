@@ -1,7 +1,7 @@
 -- Which signs separate the parts of a line's rows?
-use Rattle.std.specs.Prelude.{ℕ, Bool, false, ◌||◌, ◌&&◌, ◌==◌, if◌then◌else◌, List, [], ◌∷◌, Option, Some, None, IsSome, is_some}
+use Rattle.std.specs.Prelude.{ℕ, Bool, false, ◌||◌, ◌&&◌, ◌==◌, if◌then◌else◌, List, [], ◌∷◌, Option, Some, None, is_some}
 use Rattle.std.specs.Str.{bytes_eq}
-use Rattle.lhg_lex.specs.PlainToken.{PlainToken, word, number, sign, two_signs}
+use Rattle.lhg_lex.specs.PlainToken.{PlainToken, word, sign, two_signs}
 use Rattle.lhg_read.specs.declared.operators.Operator.{Operator}
 use Rattle.lhg_read.specs.declared.operators.Operator.TheVariants.{Less, AtMost, Equal, AtLeast, Greater}
 

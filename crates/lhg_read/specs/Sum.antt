@@ -1,5 +1,5 @@
 -- Which tokens are a sum?
-use Rattle.std.specs.Prelude.{ℕ, Bool, true, false, if◌then◌else◌, List, [], ◌∷◌, drop, Option, Some, None}
+use Rattle.std.specs.Prelude.{ℕ, Bool, true, false, if◌then◌else◌, List, [], ◌∷◌, drop, Option, Some}
 use Rattle.std.specs.Option.{option_map}
 use Rattle.lhg_math.specs.Number.{neg}
 use Rattle.lhg_lex.specs.PlainToken.{PlainToken}

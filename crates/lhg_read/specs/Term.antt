@@ -1,11 +1,11 @@
 -- Which tokens are a variable, and which are a term?
-use Rattle.std.specs.Prelude.{ℕ, ◌+◌, ◌<◌, length, Bool, ◌&&◌, not, if◌then◌else◌, List, [], ◌∷◌, Option, Some, None}
+use Rattle.std.specs.Prelude.{ℕ, ◌+◌, ◌<◌, length, ◌&&◌, not, if◌then◌else◌, List, [], ◌∷◌, Option, Some, None}
 use Rattle.std.specs.List.{position}
 use Rattle.std.specs.Option.{option_map}
 use Rattle.std.specs.Str.{bytes_eq}
 use Rattle.lhg_math.specs.Number.{Number, unit}
 use Rattle.lhg_math.specs.Signs.{is_nought}
-use Rattle.lhg_lex.specs.PlainToken.{PlainToken, word, number, sign}
+use Rattle.lhg_lex.specs.PlainToken.{PlainToken, word, number}
 use Rattle.lhg_read.specs.Signs.{is_sign}
 use Rattle.lhg_read.specs.declared.forms.Form.{Form}
 use Rattle.lhg_read.specs.declared.forms.Form.TheVariants.{Plain, Flow, Jump}

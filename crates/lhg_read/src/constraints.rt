@@ -14,12 +14,9 @@ use crate::refusal::Refusal;
 use crate::signs::is_one_word;
 use lhg_lex::{Lines, Token};
 use lhg_num::Frac;
-use lhg_plant::Name;
+use lhg_plant::{MOST_LINE_ROWS, Name};
 use lhg_row::Row;
 use std::alloc::Global;
-
-// How many rows a line may give.
-const LINE_ROWS: usize = 64;
 
 // Appends the rows of two or three sums with operators between.
 fn push_chain(
@@ -116,7 +113,7 @@ pub(crate) fn read_list(
     loop {
         let end = at + before_comma(&tokens[at..]);
         push_constraint(alloc, lines, vars, form, &tokens[at..end], &mut rows)?;
-        if rows.len() > LINE_ROWS {
+        if rows.len() > MOST_LINE_ROWS {
             return Err(Refusal::NotHere);
         }
         if end >= tokens.len() {

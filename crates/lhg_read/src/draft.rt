@@ -2,6 +2,7 @@
 ghost use Rattle.std.specs.Prelude.{◌≡◌, ◌<◌, ◌≤◌, ◌&&◌, nat_lt, length, map, vec_len, IfOk};
 ghost use Rattle.std.specs.List.{list_any};
 ghost use Rattle.std.specs.Str.{bytes_eq};
+ghost use Rattle.lhg_plant.specs.Limits.{most_locations, most_safe_lines};
 ghost use Rattle.lhg_plant.specs.Views.{plain_location, plain_switch};
 ghost use Rattle.lhg_read.specs.PlantLine.{inv, flow, safe, loc, block, switch, end};
 ghost use Rattle.lhg_read.specs.PlantSteps as plain;
@@ -12,18 +13,9 @@ use crate::axes::still_rows;
 use crate::refusal::Refusal;
 use crate::switches::{Written, placed};
 use lhg_num::Frac;
-use lhg_plant::{Location, Name, Switch};
+use lhg_plant::{Location, MOST_LOCATIONS, MOST_SAFE_LINES, MOST_SWITCHES, Name, Switch};
 use lhg_row::Row;
 use std::alloc::{AllocError, Global};
-
-// How many locations a plant may have.
-const MOST_LOCATIONS: usize = 64;
-
-// How many switches a plant may have.
-const MOST_SWITCHES: usize = 256;
-
-// How many safe lines a location may have.
-const MOST_SAFE_LINES: usize = 64;
 
 /// What is read of a plant behind its variables. The last location is open until a switch or the end comes.
 #[derive(Drop)]
@@ -134,7 +126,7 @@ impl Draft {
 
     // Whether the open location may have a safe line more.
     fn may_be_safe(&self) -> bool
-        ensures { result ≡ (plain.is_open (plain_draft self.now) && nat_lt (plain.safe_lines (plain_draft self.now).locs) 64) }
+        ensures { result ≡ (plain.is_open (plain_draft self.now) && nat_lt (plain.safe_lines (plain_draft self.now).locs) most_safe_lines) }
     {
         self.is_open() && safe_lines(&self.locs) < MOST_SAFE_LINES
     }
@@ -195,7 +187,7 @@ impl Draft {
 
     /// A switch.
     pub(crate) fn take_switch(&mut self, written: Written) -> Result<(), Refusal>
-        requires { vec_len self.old.locs ≤ 64 }
+        requires { vec_len self.old.locs ≤ most_locations }
         ensures { IsRead result (plain.step 0 (plain_draft self.old) (switch (plain_written written))) (λ _. plain_draft self.new) }
     {
         if !self.may_switch(&written.name) {

@@ -3,20 +3,15 @@ ghost use Rattle.std.specs.Prelude.{◌≡◌, ◌≤◌, [], ◌∷◌, length,
 ghost use Rattle.std.specs.Option.{option_and_then};
 ghost use Rattle.lhg_lex.specs.TextTokens.{plain_of, IsSpan};
 ghost use Rattle.lhg_read.specs.Lexed.{IsLexed};
+ghost use Rattle.lhg_plant.specs.Differ.{is_among};
 ghost use Rattle.lhg_read.specs.Names as plain;
 ghost use Rattle.lhg_read.specs.Refusals.{IsRead};
 
 use crate::refusal::Refusal;
 use crate::signs::is_word;
 use lhg_lex::{Lines, Tok, Token};
-use lhg_plant::Name;
+use lhg_plant::{MOST_NAME_BYTES, MOST_VARIABLES, Name};
 use std::alloc::Global;
-
-// How many bytes a name may have.
-const NAME_BYTES: usize = 32;
-
-// How many variables a plant may have.
-const MOST_VARIABLES: usize = 6;
 
 /// The name that a token is.
 pub(crate) fn read_name(lines: &Lines, token: &Token) -> Option<Name>
@@ -27,7 +22,7 @@ pub(crate) fn read_name(lines: &Lines, token: &Token) -> Option<Name>
     match token.kind {
         Tok::Word => {
             let text = lines.text(token);
-            if text.len() <= NAME_BYTES {
+            if text.len() <= MOST_NAME_BYTES {
                 Some(Name::new(text))
             } else {
                 None
@@ -76,7 +71,7 @@ fn variable_name(lines: &Lines, token: &Token) -> Option<Name>
 
 // Whether the name is among these.
 fn is_among(name: &Name, names: &[Name]) -> bool
-    ensures { result ≡ plain.is_among name.now names.now }
+    ensures { result ≡ is_among name.now names.now }
 {
     names.iter().any(|other| other.bytes() == name.bytes())
 }

@@ -1,5 +1,6 @@
 // Reads plants.
 ghost use Rattle.std.specs.Prelude.{◌≡◌, IfOk, IfErr, OnErr};
+ghost use Rattle.lhg_plant.specs.Printable.{IsPrintable};
 ghost use Rattle.lhg_plant.specs.Views.{plain_plant};
 ghost use Rattle.lhg_read.specs.PlantText.{IsPlant, IsSomePlant};
 ghost use Rattle.lhg_read.specs.TokenText.{IsTextBy, ReadsText, HasCause};
@@ -19,6 +20,8 @@ use std::alloc::Global;
 pub fn read_plant(alloc: Global, lines: &mut Lines) -> Result<Plant, ReadStop>
     // the lines that are read are a plant, and this is its value
     ensures ok { IfOk result (λ p. ReadsText (λ tokens. IsPlant tokens (plain_plant p)) lines.old lines.new) }
+    // a plant that is read can be printed
+    ensures printable { IfOk result (λ p. IsPrintable (plain_plant p)) }
     // no next lines are a plant, and this is the first line that cannot stand where it does
     ensures err { IfErr result (HasCause (IsTextBy IsSomePlant) lines.old) }
     ensures bytes { OnErr result (lines.new.bytes ≡ lines.old.bytes) }

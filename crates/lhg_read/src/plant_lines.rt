@@ -2,6 +2,7 @@
 ghost use Rattle.std.specs.Prelude.{◌≡◌, ◌≤◌, length, map, All, vec_len};
 ghost use Rattle.std.specs.Option.{option_and_then, option_map};
 ghost use Rattle.lhg_lex.specs.TextTokens.{plain_of, IsSpan};
+ghost use Rattle.lhg_plant.specs.Limits.{most_locations};
 ghost use Rattle.lhg_read.specs.Lexed.{IsLexed};
 ghost use Rattle.lhg_read.specs.Names.{one_name};
 ghost use Rattle.lhg_read.specs.Rows.{rows_of};
@@ -94,7 +95,7 @@ fn take_switch(
 ) -> Result<(), Refusal>
     requires spans { All (IsSpan lines.now.bytes) tokens.now }
     requires words { All (λ token. IsLexed (plain_of lines.now.bytes token)) tokens.now }
-    requires few { vec_len draft.old.locs ≤ 64 }
+    requires few { vec_len draft.old.locs ≤ most_locations }
     ensures { IsRead result (option_and_then (step (length vars.now) (plain_draft draft.old)) (option_map (λ s. switch s) (switch_of vars.now (map (plain_of lines.now.bytes) tokens.now)))) (λ _. plain_draft draft.new) }
 {
     let written = read_written(alloc, lines, vars, tokens)?;
@@ -113,7 +114,7 @@ fn take_by(
     requires span { IsSpan lines.now.bytes first.now }
     requires spans { All (IsSpan lines.now.bytes) rest.now }
     requires words { All (λ token. IsLexed (plain_of lines.now.bytes token)) rest.now }
-    requires few { vec_len draft.old.locs ≤ 64 }
+    requires few { vec_len draft.old.locs ≤ most_locations }
     ensures { IsRead result (option_and_then (step (length vars.now) (plain_draft draft.old)) (line_by vars.now (plain_of lines.now.bytes first.now) (map (plain_of lines.now.bytes) rest.now))) (λ _. plain_draft draft.new) }
 {
     if is_word(lines, first, b"loc") {
@@ -150,7 +151,7 @@ pub(crate) fn take_line(
 ) -> Result<(), Refusal>
     requires spans { All (IsSpan lines.now.bytes) tokens.now }
     requires words { All (λ token. IsLexed (plain_of lines.now.bytes token)) tokens.now }
-    requires few { vec_len draft.old.locs ≤ 64 }
+    requires few { vec_len draft.old.locs ≤ most_locations }
     ensures { IsRead result (taken vars.now (plain_draft draft.old) (map (plain_of lines.now.bytes) tokens.now)) (λ _. plain_draft draft.new) }
 {
     match tokens {

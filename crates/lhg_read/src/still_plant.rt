@@ -2,6 +2,7 @@
 ghost use Rattle.std.specs.Prelude.{◌≡◌, ◌<◌, ◌^◌, ◌∷◌, [], false, map, IfOk};
 ghost use Rattle.lhg_plant.specs.Views.{plain_plant};
 ghost use Rattle.lhg_plant.specs.Still.{still_rows};
+ghost use Rattle.lhg_plant.specs.Word.{IsName, IsVariable};
 ghost use Rattle.lhg_read.specs.SmallPlant.{at_least, at_most, small_plant};
 
 use lhg_num::{Frac, Scalar};
@@ -17,6 +18,8 @@ pub struct Small {
     pub low: u64,
     pub high: u64,
     pub limit: u64,
+    ghost variable_is: { IsVariable variable },
+    ghost location_is: { IsName location },
     ghost low_fits: { low < 10 ^ 18 },
     ghost high_fits: { high < 10 ^ 18 },
     ghost limit_fits: { limit < 10 ^ 18 },

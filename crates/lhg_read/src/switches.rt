@@ -4,6 +4,7 @@ ghost use Rattle.std.specs.List.{position};
 ghost use Rattle.std.specs.Option.{option_map};
 ghost use Rattle.std.specs.Str.{bytes_eq};
 ghost use Rattle.lhg_lex.specs.TextTokens.{plain_of, IsSpan};
+ghost use Rattle.lhg_plant.specs.Limits.{most_locations};
 ghost use Rattle.lhg_plant.specs.Views.{plain_location, plain_switch};
 ghost use Rattle.lhg_read.specs.Lexed.{IsLexed};
 ghost use Rattle.lhg_read.specs.PlantLine.{side_of, switch_of};
@@ -92,7 +93,7 @@ fn place_in(locs: &[Location], name: &Name) -> Option<usize>
 
 /// The switch between the places of its two locations, where both are there.
 pub(crate) fn placed(written: Written, locs: &[Location]) -> Option<Switch>
-    requires { length locs.now ≤ 64 }
+    requires { length locs.now ≤ most_locations }
     ensures { option_map plain_switch result ≡ switch_at (loc_names (map plain_location locs.now)) (plain_written written) }
 {
     let Some(from) = place_in(locs, &written.from) else {

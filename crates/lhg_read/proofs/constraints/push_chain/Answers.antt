@@ -1,4 +1,3 @@
-use Rattle.std.proofs.Common.{◌+◌}
 use Rattle.std.proofs.lemmas.Result.{err_from_is_err_and}
 use Rattle.lhg_read.proofs.ChainSteps.{one_sum, no_pair, two_sums, four_sums, no_last, both_pairs}
 use Rattle.lhg_read.proofs.RefusalSteps.{refused_whole, appended_last}

@@ -1,4 +1,4 @@
-use Rattle.std.proofs.Common.{◌≡◌, ◌++◌, sym, ap, ◌∙◌, refl, Some}
+use Rattle.std.proofs.Common.{sym, ap, ◌∙◌, Some}
 use Rattle.lhg_read.specs.Rows.{constraint_of}
 use Rattle.lhg_read.proofs.constraints.push_constraint.Goals as goal
 

@@ -13,8 +13,8 @@ returns-in_err-push_constraint c =
     _ c.loop-rows.rows.items c.loop-rows.invariant.left)
     c.in_err-push_constraint.ensures)
 
-pub returns-then-len-gt-LINE_ROWS : goal.returns-then-len-gt-LINE_ROWS
-returns-then-len-gt-LINE_ROWS c =
+pub returns-then-len-gt-MOST_LINE_ROWS : goal.returns-then-len-gt-MOST_LINE_ROWS
+returns-then-len-gt-MOST_LINE_ROWS c =
     let many : 64 < length c.push_constraint.new.rows.items = omega (arith, c.push_constraint.new.rows.ok.0) in
     too_many c.args.form c.args.vars.now c.args.lines.now.bytes c.args.tokens.now c.loop-rows.at c.before_comma.result c.loop-rows.invariant.within c.before_comma.ensures.place
     _ c.loop-rows.rows.items c.loop-rows.invariant.left c.push_constraint.new.rows.items c.in_ok-push_constraint.ensures many

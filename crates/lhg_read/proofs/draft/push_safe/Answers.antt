@@ -1,4 +1,4 @@
-use Rattle.std.proofs.Common.{◌<◌, ◌+◌, ◌-◌, ◌≡◌, ◌∷◌, [], ◌∙◌, ap, length, map, refl, arith}
+use Rattle.std.proofs.Common.{◌<◌, ◌+◌, ◌-◌, ◌≡◌, ◌∷◌, [], ◌∙◌, ap, length, map, arith}
 use Rattle.lhg_row.specs.Piece.{PlainPiece}
 use Rattle.std.proofs.Common.{List}
 use Rattle.lhg_plant.specs.Plant.{PlainLocation}

@@ -1,5 +1,5 @@
-use Rattle.std.proofs.Common.{◌≡◌, ◌≤◌, ◌∷◌, [], ◌++◌, List, ℕ, length, ◌∙◌, refl, sym, ap, arith, true, false, length-append}
-use Rattle.lhg_read.specs.Names.{all_differ, is_among}
+use Rattle.std.proofs.Common.{◌≡◌, ◌∷◌, [], ◌++◌, length, ◌∙◌, refl, sym, ap, arith, true, false, length-append}
+use Rattle.lhg_plant.specs.Differ.{all_differ, is_among}
 use Rattle.lhg_read.proofs.VariableSteps.{too_many_now, before_now, named_now, differ_more}
 use Rattle.lhg_read.proofs.names.read_variables.Goals as goal
 

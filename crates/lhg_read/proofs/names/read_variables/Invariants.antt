@@ -1,6 +1,6 @@
 use Rattle.std.proofs.Common.{◌≡◌, ◌≤◌, [], length, map, drop, true}
 use Rattle.lhg_lex.specs.TextTokens.{plain_of}
-use Rattle.lhg_read.specs.Names.{all_differ}
+use Rattle.lhg_plant.specs.Differ.{all_differ}
 use Rattle.lhg_read.proofs.VariableSteps.{further}
 use Rattle.lhg_read.proofs.names.read_variables.Given as goal
 

@@ -1,4 +1,4 @@
-use Rattle.std.proofs.Common.{◌≡◌, ◌≤◌, ◌∙◌, Some, sym, subst, map, arith, length, vec_len}
+use Rattle.std.proofs.Common.{◌≡◌, ◌∙◌, Some, sym, subst, map, arith}
 use Rattle.std.proofs.lemmas.List.{length-map}
 use Rattle.std.proofs.lemmas.Result.{err_from_is_err_and}
 use Rattle.lhg_lex.specs.TextTokens.{plain_of}
@@ -6,8 +6,7 @@ use Rattle.lhg_plant.specs.Views.{plain_location}
 use Rattle.lhg_read.specs.DraftView.{plain_draft}
 use Rattle.lhg_read.specs.PlantSteps.{taken}
 use Rattle.lhg_read.specs.Refusals.{IsRefused}
-use Rattle.lhg_read.specs.declared.refusal.Refusal.TheVariants.{NotHere}
-use Rattle.lhg_read.proofs.PlantReading.{nothing_comes, not_head, after_head, head_alone, not_vars, after_vars, few_locs, no_end_comes, not_taken, one_taken, plant_read, lexed_after}
+use Rattle.lhg_read.proofs.PlantReading.{nothing_comes, not_head, after_head, head_alone, not_vars, after_vars, few_locs, no_end_comes, not_taken, one_taken, plant_read, read_proper, read_printable, lexed_after}
 use Rattle.lhg_read.proofs.plant.read_plant.Goals as goal
 
 pub returns-in_err-line-clause-err : goal.returns-in_err-line-clause-err
@@ -79,3 +78,9 @@ loop-draft-preserved c =
 
 pub returns-clause-ok : goal.returns-clause-ok
 returns-clause-ok c = plant_read c.args.lines.now c.loop-draft.lines c.in-Ok.vars.items (plain_draft c.loop-draft.draft) c.loop-draft.invariant c.loop-draft-test.false
+
+pub returns-clause-printable : goal.returns-clause-printable
+returns-clause-printable c = read_printable c.args.lines.now c.loop-draft.lines c.in-Ok.vars.items (plain_draft c.loop-draft.draft) c.loop-draft.invariant c.loop-draft-test.false
+
+pub invariant_of-result : goal.invariant_of-result
+invariant_of-result c = record { proper = read_proper c.args.lines.now c.loop-draft.lines c.in-Ok.vars.items (plain_draft c.loop-draft.draft) c.loop-draft.invariant c.loop-draft-test.false }

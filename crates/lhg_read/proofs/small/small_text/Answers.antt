@@ -1,5 +1,6 @@
-use Rattle.std.proofs.Common.{rules, arith}
+use Rattle.std.proofs.Common.{rules, arith, sym, subst}
 use Rattle.std.proofs.lemmas.List.{length-map}
+use Rattle.lhg_plant.specs.Word.{IsName, IsVariable}
 use Rattle.lhg_read.proofs.BadLines.{bad1, bad2, bad3, bad4, bad5, bad6, bad7, bad8, says}
 use Rattle.lhg_read.proofs.DigitRuns.{literal_small}
 use Rattle.lhg_read.proofs.small.small_text.Goals as goal
@@ -65,9 +66,13 @@ returns-clause-ok c =
 
 pub invariant_of-result : goal.invariant_of-result
 invariant_of-result c =
+    let p = c.in-Some.ensures.some in
+    let q = c.in-Some-location_line.ensures.some in
     let r = c.in-Some-bounds_line.ensures.some in
     let s = c.in-Some-limit_line.ensures.some in
     record {
+      variable_is = subst (λ w. IsVariable w) (sym c.new.ensures) p.0;
+      location_is = subst (λ w. IsName w) (sym c.new-2.ensures) q.0;
       low_fits = omega (arith, literal_small r.0 r.2, r.4);
       high_fits = omega (arith, literal_small r.1 r.3, r.5);
       limit_fits = omega (arith, literal_small s.0 s.1, s.2);

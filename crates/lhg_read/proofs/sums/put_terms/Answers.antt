@@ -1,6 +1,5 @@
 use Rattle.std.proofs.Common.{sym, ◌∙◌, ap, arith}
 use Rattle.std.specs.Option.{option_and_then}
-use Rattle.lhg_read.specs.declared.terms.Term.{Term}
 use Rattle.lhg_read.specs.Collect.{collected}
 use Rattle.lhg_read.proofs.SumSteps.{finished, goes_on, refused, term_put, put_as, starts_minus, starts_plain, some_minus}
 use Rattle.lhg_read.proofs.sums.put_terms.Goals.{then-minus, else-minus}
