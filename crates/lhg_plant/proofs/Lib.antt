@@ -1,6 +1,10 @@
+pub mod AcrossSteps
+pub mod ChangeSteps
 pub mod Decided
 pub mod Examples
 pub mod GuardTruth
+pub mod LegalExact
+pub mod LegalSteps
 pub mod LogDecided
 pub mod Losses
 pub mod Monotone

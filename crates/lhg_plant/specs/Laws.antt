@@ -1,9 +1,13 @@
 -- Which laws does the safety game obey, for every plant?
-use Rattle.std.specs.Prelude.{◌≡◌, ◌<◌, ◌≤◌, ◌↔◌, ◌⊎◌, ℕ, suc, List, [], length, Contains}
+use Rattle.std.specs.Prelude.{◌≡◌, ◌<◌, ◌≤◌, ◌↔◌, ◌⊎◌, ℕ, suc, true, List, [], length, Contains}
 use Rattle.lhg_row.specs.Play.{PlainMove, EachPoint}
 use Rattle.lhg_plant.specs.Plant.{PlainPlant}
 use Rattle.lhg_plant.specs.State.{PlainState, States, IsState, IsSafe}
-use Rattle.lhg_plant.specs.Legal.{IsPlayFrom}
+use Rattle.lhg_math.specs.Number.{Number}
+use Rattle.lhg_num.specs.Arithmetic.{Arithmetic}
+use Rattle.lhg_row.specs.Row.{PlainPoint}
+use Rattle.lhg_plant.specs.Legal.{IsPlayFrom, LegalFlow, LegalSwitchTo}
+use Rattle.lhg_plant.specs.LegalTruths.{state_truth, legal_flow_truth, legal_switch_truth}
 use Rattle.lhg_plant.specs.OutBack.{Out, Back, BackBy}
 use Rattle.lhg_plant.specs.Escape.{MayPass, HasEscape, IsSecure}
 use Rattle.lhg_plant.specs.Round.{InRound, IsRemovedIn, RemovesNothing, IsLastRound}
@@ -23,6 +27,12 @@ pub record MemberLaws (a : PlainPlant) : Type 0 where
   pub safe : (s : PlainState) → IsSafe a s ⊎ ¬ IsSafe a s
   pub region : (r : PlainRegion) (s : PlainState) → InRegion a r s ⊎ ¬ InRegion a r s
   pub guard : (g : PlainGuards) (e : ℕ) (s : PlainState) → InGuard a g e s ⊎ ¬ InGuard a g e s
+
+-- where points have one coordinate per variable, the truth that is formed of a state, a flow or a switch is whether it is legal
+pub record LegalLaws (n : Arithmetic) (a : PlainPlant) : Type 0 where
+  pub state : (s : PlainState) → length s.at ≡ length a.vars → ((state_truth n a s).value ≡ true) ↔ IsState a s
+  pub flow : (s : PlainState) (t : Number) (y : PlainPoint) → length s.at ≡ length a.vars → length y ≡ length a.vars → ((legal_flow_truth n a s t y).value ≡ true) ↔ LegalFlow a s t y
+  pub switch : (e : ℕ) (s : PlainState) (y : PlainPoint) → length s.at ≡ length a.vars → length y ≡ length a.vars → ((legal_switch_truth n a e s y).value ≡ true) ↔ LegalSwitchTo a e s y
 
 -- where T lies inside S: Out shrinks and Back grows from T to S, so an escape from S is one from T
 pub record MonotoneLaws (a : PlainPlant) (T S : States) : Type 0 where

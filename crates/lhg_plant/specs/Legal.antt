@@ -25,6 +25,10 @@ pub record LegalSwitch (a : PlainPlant) (e : ℕ) (s z : PlainState) : Type 0 wh
   pub result : IsState a z
   pub jump : InPiece switch.jump (s.at ++ z.at)
 
+-- switch e leads from the state to the point y of the location that it enters
+abbrev pub LegalSwitchTo : PlainPlant → ℕ → PlainState → PlainPoint → Type 0
+LegalSwitchTo a e s y = (m : ℕ) × LegalSwitch a e s (record { loc = m; at = y })
+
 -- switch e is there and belongs to this side
 abbrev pub HasSide : PlainPlant → ℕ → Side → Type 0
 HasSide a e side = IsSomeAnd (slice_get a.switches e) (λ w. w.side ≡ side)

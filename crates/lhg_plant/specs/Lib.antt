@@ -4,6 +4,7 @@ pub mod Escape
 pub mod Example
 pub mod Laws
 pub mod Legal
+pub mod LegalTruths
 pub mod Limits
 pub mod Log
 pub mod Loss

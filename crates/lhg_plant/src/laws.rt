@@ -1,5 +1,6 @@
 // What callers may rest on: the laws of the safety game.
 ghost use Rattle.std.specs.Prelude.{ℕ, List};
+ghost use Rattle.lhg_num.specs.Arithmetic.{Arithmetic};
 ghost use Rattle.lhg_plant.specs.Plant.{PlainPlant};
 ghost use Rattle.lhg_plant.specs.State.{PlainState};
 ghost use Rattle.lhg_plant.specs.Escape.{HasEscape, IsSecure};
@@ -8,13 +9,18 @@ ghost use Rattle.lhg_plant.specs.Still.{IsStill, HasNoSwitch};
 ghost use Rattle.lhg_plant.specs.Controller.{PlainController};
 ghost use Rattle.lhg_plant.specs.Loss.{PlainLoss};
 ghost use Rattle.lhg_plant.specs.Example.{WordFacts, ThermostatFacts, TankFacts};
-ghost use Rattle.lhg_plant.specs.Laws.{MemberLaws, MonotoneLaws, RoundLaws, ValidLaws, RunLaws, LossLaws, SolvedLaw, StillLaws, WordLaws};
+ghost use Rattle.lhg_plant.specs.Laws.{MemberLaws, LegalLaws, MonotoneLaws, RoundLaws, ValidLaws, RunLaws, LossLaws, SolvedLaw, StillLaws, WordLaws};
 
 use crate::sets::StateSet;
 
 /// Whether a point is a state, is safe, or is in a region or a guard is decidable.
 pub fn law_members()
     ensures { (a : PlainPlant) → MemberLaws a }
+{}
+
+/// The truth that is formed of a state, a flow or a switch is whether it is legal.
+pub fn law_legal()
+    ensures { (n : Arithmetic) (a : PlainPlant) → LegalLaws n a }
 {}
 
 /// Out shrinks and Back grows when the set grows.

@@ -1,7 +1,10 @@
 // Plants, their states, and the safety game on them.
 #![tactic(auto)]
 
+mod flow_rows;
+mod jump_rows;
 pub mod laws;
+mod legal;
 mod limits;
 mod names;
 mod plants;
@@ -10,6 +13,7 @@ mod states;
 #[cfg(test)]
 mod tests;
 
+pub use legal::{in_invariant, legal_flow, legal_switch};
 pub use limits::{
     MOST_LINE_ROWS, MOST_LOCATIONS, MOST_NAME_BYTES, MOST_SAFE_LINES, MOST_SWITCHES, MOST_VARIABLES,
 };
