@@ -1,11 +1,12 @@
 -- What the code finds in the lists of a plant.
-use Rattle.std.proofs.Common.{◌≡◌, ◌==◌, ◌<◌, ℕ, zero, suc, List, [], ◌∷◌, length, map, get_or, refl, sym, ap, ◌∙◌, subst, Bool, true, false, not, Option, Some, None, Result, slice_get}
+use Rattle.std.proofs.Common.{◌≡◌, ◌==◌, ◌<◌, ℕ, zero, suc, List, [], ◌∷◌, length, map, get_or, refl, sym, ap, ◌∙◌, subst, Bool, true, false, Option, Some, None, Result, slice_get}
 use Rattle.std.specs.Option.{option_map}
 use Rattle.std.specs.Ordering.{ordering_index}
+use Rattle.std.specs.declared.cmp.Ordering.{Ordering}
 use Rattle.std.proofs.lemmas.Option.{none-some, same_Some, slice_get-map, slice_get_read}
 use Rattle.lhg_math.specs.Number.{Number, lt, nought, sign_of}
 use Rattle.lhg_math.specs.NumberOrder.{lt_asym}
-use Rattle.lhg_math.specs.Tests.{by_bool, false_true}
+use Rattle.lhg_math.specs.Tests.{by_bool}
 use Rattle.lhg_num.specs.Halting.{IsWideBy}
 use Rattle.lhg_num.specs.Marked.{Marked}
 use Rattle.lhg_row.specs.Members.{AllOf}
@@ -25,9 +26,12 @@ all_at P (y ∷ xs) (suc i) x h e = all_at P xs i x h.1 e
 pub told_there : {A E : Type 0} (r : Result Bool E) (f : A → Marked Bool) (o : Option A) (x : A) → o ≡ Some x → IsWideBy r (f x) (λ b. b) → IsWideBy r (told_of f o) (λ b. b)
 told_there r f o x e h = subst (λ q. IsWideBy r (told_of f q) (λ b. b)) (sym e) h
 
--- a number whose sign is another than that of 1 is not above 0
-pub not_above : (t : Number) → true ≡ not (ordering_index (sign_of t) == 2) → lt nought t ≡ false
-not_above t h =
-    by_bool (lt nought t)
-    (λ e. let below : lt t nought ≡ false = lt_asym nought t e in let k : true ≡ false = rw (below, e) at h in false_true (sym k))
-    (λ e. e)
+-- the sign of a number is that of 1 where the number is above 0
+pub greater_sign : (t : Number) (o : Ordering) → o ≡ sign_of t → (ordering_index o == 2) ≡ lt nought t
+greater_sign t o e = ap (λ x. ordering_index x == 2) e ∙ by_order
+  where
+    by_order : (ordering_index (sign_of t) == 2) ≡ lt nought t
+    by_order =
+        by_bool (lt nought t)
+        (λ f. let below : lt t nought ≡ false = lt_asym nought t f in rw (below, f) refl)
+        (λ f. by_bool (lt t nought) (λ g. rw (g, f) refl) (λ g. rw (g, f) refl))

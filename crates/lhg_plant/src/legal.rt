@@ -1,5 +1,6 @@
 // Which points are states, and which moves are legal?
 ghost use Rattle.std.specs.Prelude.{◌≡◌, ◌<◌, ◌↔◌, length, vec_len, IsTrue, IfOk};
+ghost use Rattle.lhg_math.specs.Number.{lt, nought};
 ghost use Rattle.lhg_num.specs.FracArithmetic.{frac_arithmetic};
 ghost use Rattle.lhg_num.specs.Halting.{IsWideBy};
 ghost use Rattle.lhg_plant.specs.Proper.{IsLocation, IsSwitch};
@@ -37,6 +38,13 @@ pub fn in_invariant(plant: &Plant, state: &State) -> Result<bool, Wide>
     is_inside(plant, state.loc, &state.at)
 }
 
+#[tactic(auto, using(crate::proofs::LegalSteps::greater_sign))]
+fn is_above_0(time: &Frac) -> bool
+    ensures { result ≡ lt nought time.now }
+{
+    time.sign() == Ordering::Greater
+}
+
 // Whether the flow between the points is legal in the location.
 fn flows(
     location: &Location,
@@ -48,7 +56,7 @@ fn flows(
     requires lengths { length from.now ≡ length to.now }
     ensures { IsWideBy result (flow_truth frac_arithmetic (plain_location location.now) from.now time.now to.now) (λ b. b) }
 {
-    if time.sign() != Ordering::Greater {
+    if !is_above_0(time) {
         return Ok(false);
     }
     if !all_hold(&location.inv, from)? {
@@ -112,3 +120,6 @@ pub fn legal_switch(
     let taken = &plant.switches[switch as usize];
     leads(plant, taken, from, to)
 }
+
+#[cfg(test)]
+mod tests;
