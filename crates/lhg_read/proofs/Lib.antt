@@ -25,8 +25,15 @@ pub mod PlantRuns
 pub mod PlantStands
 pub mod PlantStates
 pub mod PlantTexts
+pub mod PointSteps
 pub mod RefusalSteps
+pub mod RestLines
 pub mod SmallProper
+pub mod SpelledLines
+pub mod StateLines
+pub mod StateReading
+pub mod StateSteps
 pub mod SumSteps
+pub mod TextLawProofs
 pub mod TokenTexts
 pub mod VariableSteps

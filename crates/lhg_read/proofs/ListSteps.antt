@@ -22,7 +22,7 @@ comma_by_kind text from to (tok.Number q) = refl
 comma_by_kind text from to (tok.Sign b) = refl
 comma_by_kind text from to (tok.TwoSign b c) = refl
 
-commas_blind : IsBlind is_comma
+pub commas_blind : IsBlind is_comma
 commas_blind text token = comma_by_kind text token.from token.to token.kind
 
 -- the rows of the constraints between commas, however many they are

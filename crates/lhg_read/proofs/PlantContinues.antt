@@ -55,7 +55,7 @@ end_tokens = refl
 -- ---- one line on
 
 -- where a text goes on behind a line, it goes on before it
-on_by : (Is : List (List Spot) → Type 0) (tokens : List (List Spot)) (line : List ℕ) (spots : List Spot) → tokens_of line ≡ Ok spots → token_line (Ok spots) ≡ Some (spots ∷ []) → CanGoOn Is (tokens ++ spots ∷ []) → CanGoOn Is tokens
+pub on_by : (Is : List (List Spot) → Type 0) (tokens : List (List Spot)) (line : List ℕ) (spots : List Spot) → tokens_of line ≡ Ok spots → token_line (Ok spots) ≡ Some (spots ∷ []) → CanGoOn Is (tokens ++ spots ∷ []) → CanGoOn Is tokens
 on_by Is tokens line spots e f c = record {
   more = line ∷ c.more;
   further = spots ∷ c.further;

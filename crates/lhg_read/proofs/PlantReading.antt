@@ -53,6 +53,25 @@ pub refused_cause : (Is : List (List Spot) → Type 0) (old s : Reading) (tokens
 refused_cause Is old s tokens r can none line h refusal.NotHere o bad k = refused_line Is old s tokens r can none line h (bad k)
 refused_cause Is old s tokens r can none line h refusal.Memory o bad k = tt
 
+-- ---- the end of a text
+
+-- lines with tokens that are read are a text where their tokens are in the grammar
+pub reads_text : (Is : List (List Spot) → Type 0) (old s : Reading) (tokens : List (List Spot)) (r : Reads old s tokens) → Is tokens → (tokens ≡ [] → ⊥) → ReadsText Is old s
+reads_text Is old s tokens r is some = by_full r.full
+  where
+    same : (ts us : List (List Spot)) → Some ts ≡ Some us → us ≡ ts
+    same ts us e = cc
+
+    by_full : EndsFull r.front → ReadsText Is old s
+    by_full (inl e) = absurd (some (same [] tokens (ap token_lines (sym e) ∙ r.are)))
+    by_full (inr x) = record {
+      before = x.0;
+      last = x.1;
+      read = subst (λ ls. IsReadTo old s ls) x.2 r.read;
+      text = record { tokens = tokens; are = ap token_lines (sym x.2) ∙ r.are; is = is };
+      not_blank = x.3;
+    }
+
 -- ---- what the tokens of a line say
 
 -- in the text, and by themselves
@@ -174,29 +193,6 @@ module _ (old s : Reading) (vars : List (List ℕ)) (d : PlainDraft) (b : Betwee
 
   -- the end
   pub plant_read : d.ended ≡ true → ReadsText (λ tokens. IsPlant tokens (plant_with vars d)) old s
-  plant_read ended = by_full b.1.full
-    where
-      plant : IsPlant b.0 (plant_with vars d)
-      plant = plant_of_begun b.0 vars d b.2 ended
-
-      empty : b.1.front ≡ [] → ⊥
-      empty e = no_tokens b.0 (ap token_lines (sym e) ∙ b.1.are) plant.lines_are
-        where
-          no_tokens : (ts : List (List Spot)) → Some [] ≡ Some ts → ts ≡ plant.head ∷ plant.vars ∷ plant.rest → ⊥
-          no_tokens ts p q = clash (nil ts p) q
-            where
-              nil : (ts : List (List Spot)) → Some [] ≡ Some ts → [] ≡ ts
-              nil ts p = cc
-
-              clash : [] ≡ ts → ts ≡ plant.head ∷ plant.vars ∷ plant.rest → ⊥
-              clash p q = absurd cc
-
-      by_full : EndsFull b.1.front → ReadsText (λ tokens. IsPlant tokens (plant_with vars d)) old s
-      by_full (inl e) = absurd (empty e)
-      by_full (inr x) = record {
-        before = x.0;
-        last = x.1;
-        read = subst (λ ls. IsReadTo old s ls) x.2 b.1.read;
-        text = record { tokens = b.0; are = ap token_lines (sym x.2) ∙ b.1.are; is = plant };
-        not_blank = x.3;
-      }
+  plant_read ended =
+      let plant = plant_of_begun b.0 vars d b.2 ended in
+      reads_text (λ tokens. IsPlant tokens (plant_with vars d)) old s b.0 b.1 plant (λ e. let k = sym e ∙ plant.lines_are in absurd cc)

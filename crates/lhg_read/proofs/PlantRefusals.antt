@@ -28,7 +28,7 @@ all_taken-append vars d (x ∷ xs) ys = by_end d.ended (taken vars d x) (λ e. a
     by_end false (Some e) f = f e
 
 -- a list that begins with three parts has one reading
-same_three : (a b c d : List Spot) (xs ys : List (List Spot)) → a ∷ b ∷ xs ≡ c ∷ d ∷ ys → (a ≡ c) × (b ≡ d) × (xs ≡ ys)
+pub same_three : (a b c d : List Spot) (xs ys : List (List Spot)) → a ∷ b ∷ xs ≡ c ∷ d ∷ ys → (a ≡ c) × (b ≡ d) × (xs ≡ ys)
 same_three a b c d xs ys e = (cc, cc, cc)
 
 same_vars : (v w : List (List ℕ)) → Some v ≡ Some w → v ≡ w

@@ -41,7 +41,7 @@ token_line_of [] h = absurd (omega arith)
 token_line_of (s ∷ spots) h = refl
 
 -- a line with tokens is not blank
-has_tokens : (line : List ℕ) (spots : List Spot) → tokens_of line ≡ Ok spots → 0 < length spots → ¬ IsBlankLine line
+pub has_tokens : (line : List ℕ) (spots : List Spot) → tokens_of line ≡ Ok spots → 0 < length spots → ¬ IsBlankLine line
 has_tokens line spots e some b = by_spots spots (sym e ∙ b.none) some
   where
     by_spots : (spots : List Spot) → (let a : Result (List Spot) Fault = Ok spots in a ≡ Ok []) → 0 < length spots → ⊥

@@ -13,13 +13,17 @@ pub mod Pair
 pub mod PlantLine
 pub mod PlantSteps
 pub mod PlantText
+pub mod PointText
 pub mod Refusals
 pub mod Refused
+pub mod Rest
 pub mod Rows
 pub mod Signs
 pub mod SmallPlant
 pub mod SmallText
 pub mod SmallValue
+pub mod StateText
 pub mod Sum
 pub mod Term
+pub mod TextLaws
 pub mod TokenText

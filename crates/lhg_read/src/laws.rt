@@ -1,7 +1,13 @@
-// What callers may rest on: the laws of small texts.
+// What callers may rest on: a text has one value.
 ghost use Rattle.lhg_read.specs.Laws.{OneValue};
+ghost use Rattle.lhg_read.specs.TextLaws.{TextLaws};
 
 /// A small text has one value.
 pub fn law_one_value()
     ensures { OneValue }
+{}
+
+/// A text is one plant at most, and one state of a plant at most.
+pub fn law_texts()
+    ensures { TextLaws }
 {}

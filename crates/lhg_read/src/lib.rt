@@ -16,17 +16,25 @@ mod pairs;
 mod parts;
 mod plant;
 mod plant_lines;
+mod points;
 mod refusal;
+mod rest;
 mod rows;
 mod signs;
 mod small;
+mod states;
 mod still_plant;
 mod sums;
 mod switches;
 mod terms;
+#[cfg(test)]
+mod tests;
 mod words;
 
 pub use forms::Form;
 pub use plant::read_plant;
+pub use points::read_point;
+pub use rest::finish;
 pub use rows::read_rows;
 pub use small::{SmallStop, read_small};
+pub use states::read_state;

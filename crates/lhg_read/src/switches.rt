@@ -83,8 +83,8 @@ pub(crate) fn read_written(
     })
 }
 
-// The place of the location with this name.
-fn place_in(locs: &[Location], name: &Name) -> Option<usize>
+/// The place of the location with this name.
+pub(crate) fn place_in(locs: &[Location], name: &Name) -> Option<usize>
     ensures place { result ≡ position (λ l. bytes_eq l.name name.now) locs.now }
     ensures below { IfSome result (λ i. i < length locs.now) }
 {

@@ -1,0 +1,17 @@
+use Rattle.std.proofs.Common.{◌∙◌, sym, ap, map}
+use Rattle.lhg_lex.specs.TextTokens.{plain_of}
+use Rattle.lhg_plant.specs.Views.{plain_location, plain_plant}
+use Rattle.lhg_read.specs.PointText.{point_of}
+use Rattle.lhg_read.proofs.StateSteps.{location_is, no_location, state_is}
+use Rattle.lhg_read.proofs.states.state_from.Goals as goal
+
+pub returns-in_default-place_in : goal.returns-in_default-place_in
+returns-in_default-place_in c =
+    no_location (plain_plant c.args.plant.now) (plain_of c.args.lines.now.bytes c.args.name.now) (map (plain_of c.args.lines.now.bytes) c.args.point.now)
+    (location_is (plain_plant c.args.plant.now) (plain_of c.args.lines.now.bytes c.args.name.now) c.in-Some.name c.deref.result.now _ (sym c.read_name.ensures ∙ c.in-Some.is) (ap (map plain_location) c.deref.ensures.value) c.place_in.ensures.place ∙ c.in_default-place_in.is)
+
+pub returns : goal.returns
+returns c =
+    state_is (plain_plant c.args.plant.now) (plain_of c.args.lines.now.bytes c.args.name.now) (map (plain_of c.args.lines.now.bytes) c.args.point.now) c.in-Some-place_in.loc c.in_ok-at.at
+    (location_is (plain_plant c.args.plant.now) (plain_of c.args.lines.now.bytes c.args.name.now) c.in-Some.name c.deref.result.now _ (sym c.read_name.ensures ∙ c.in-Some.is) (ap (map plain_location) c.deref.ensures.value) c.place_in.ensures.place ∙ c.in-Some-place_in.is)
+    (ap (λ vars. point_of vars (map (plain_of c.args.lines.now.bytes) c.args.point.now)) (sym c.deref-2.ensures.value) ∙ c.in_ok-at.ensures)
