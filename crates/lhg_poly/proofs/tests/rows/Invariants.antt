@@ -2,4 +2,4 @@ use Rattle.lhg_row.specs.Width.{AllWide}
 use Rattle.lhg_poly.proofs.tests.rows.Given as goal
 
 abbrev pub invariant-loop-line : goal.invariant-loop-line
-invariant-loop-line l = AllWide 1 l.out.items
+invariant-loop-line l = AllWide 2 l.out.items
