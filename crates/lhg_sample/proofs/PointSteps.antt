@@ -1,6 +1,5 @@
--- Steps of the loops that form a value and seek the tightest bound.
-use Rattle.std.proofs.Common.{◌≡◌, ℕ, suc, ◌+◌, ◌<◌, ◌≤◌, List, [], ◌∷◌, ◌++◌, length, drop, get_or, refl, sym, ap, ◌∙◌, subst}
-use Rattle.std.proofs.lemmas.List.{drop_all}
+-- The value of a row's first terms, and the steps of the loop that seeks the tightest bound.
+use Rattle.std.proofs.Common.{◌≡◌, ℕ, suc, ◌+◌, ◌<◌, List, [], ◌∷◌, ◌++◌, length, take, drop, get_or, refl, sym, ap, ◌∙◌, subst}
 use Rattle.std.specs.Prelude.{◌==◌}
 use Rattle.std.specs.Ordering.{ordering_index}
 use Rattle.lhg_math.specs.Number.{Number, lt, nought, sign_of}
@@ -15,31 +14,15 @@ use Rattle.lhg_row.specs.Piece.{PlainPiece}
 use Rattle.lhg_row.specs.Values.{plus_product, marked_value}
 use Rattle.lhg_row.specs.Eliminate.{eliminate}
 use Rattle.lhg_row.specs.Sample.{value_of, sample}
-use Rattle.lhg_row.proofs.Steps.{drop_cons, rest_step, step_part}
+use Rattle.lhg_row.proofs.Steps.{drop_cons, step_part}
 
 -- ---- the value
-module _ (a : Arithmetic) (s : Number) (cs xs : List Number) (i : ℕ) (c x : Number) (c_is : c ≡ get_or cs i c) (x_is : x ≡ get_or xs i x) (in_cs : i < length cs) (in_xs : i < length xs)
-    (whole : Marked Number) (r : IsRest whole (marked_value a s (drop i cs) (drop i xs))) where
-  here : IsRest whole (marked_value a s (c ∷ drop (i + 1) cs) (x ∷ drop (i + 1) xs))
-  here =
-      subst (λ ys. IsRest whole (marked_value a s (c ∷ drop (i + 1) cs) ys)) (drop_cons xs i x x_is in_xs)
-      (subst (λ ys. IsRest whole (marked_value a s ys (drop i xs))) (drop_cons cs i c c_is in_cs) r)
-
-  -- one product more
-  pub value-step : (t : Number) → t ≡ (plus_product a s c x).value → IsRest whole (marked_value a t (drop (i + 1) cs) (drop (i + 1) xs))
-  value-step t e = rest_step whole (plus_product a s c x) (λ u. marked_value a u (drop (i + 1) cs) (drop (i + 1) xs)) t here e
-
-  -- its marks are among those of the whole
-  pub value-part : IsPart whole (plus_product a s c x)
-  value-part = step_part whole (plus_product a s c x) (λ u. marked_value a u (drop (i + 1) cs) (drop (i + 1) xs)) here
-
-no_more : (a : Arithmetic) (s : Number) (cs : List Number) → (marked_value a s cs []).value ≡ s
-no_more a s [] = refl
-no_more a s (c ∷ cs) = refl
-
--- after the last coordinate the value is formed
-pub value-end : (a : Arithmetic) (s : Number) (cs xs : List Number) (i : ℕ) (whole : Marked Number) → length xs ≤ i → IsRest whole (marked_value a s (drop i cs) (drop i xs)) → s ≡ whole.value
-value-end a s cs xs i whole h r = sym (no_more a s (drop i cs)) ∙ sym (ap (λ ys. (marked_value a s (drop i cs) ys).value) (drop_all i xs h)) ∙ r.same
+-- coefficients past the last coordinate are not asked
+pub value-front : (a : Arithmetic) (s : Number) (cs xs : List Number) → marked_value a s (take (length xs) cs) xs ≡ marked_value a s cs xs
+value-front a s [] [] = refl
+value-front a s [] (x ∷ xs) = refl
+value-front a s (c ∷ cs) [] = refl
+value-front a s (c ∷ cs) (x ∷ xs) = let m = plus_product a s c x in ap (λ (n : Marked Number). and_then m (λ _. n)) (value-front a m.value cs xs)
 
 -- ---- the tightest bound
 module _ {S A : Type 0} (f : S → A → Marked S) (xs : List A) (s : S) (i : ℕ) (x : A) (x_is : x ≡ get_or xs i x) (in_xs : i < length xs) (whole : Marked S) (r : IsRest whole (walk f s (drop i xs))) where

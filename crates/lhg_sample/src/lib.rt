@@ -7,5 +7,7 @@
 
 mod bounds;
 mod points;
+#[cfg(test)]
+mod tests;
 
 pub use points::sample;

@@ -5,7 +5,7 @@ ghost use Rattle.lhg_math.specs.Signs.{is_nought};
 ghost use Rattle.lhg_num.specs.FracArithmetic.{frac_arithmetic};
 ghost use Rattle.lhg_num.specs.Marked.{marked_div};
 ghost use Rattle.lhg_num.specs.Halting.{IsWideBy, IsHaltedByRows};
-ghost use Rattle.lhg_row.specs.Values.{plus_product, marked_value};
+ghost use Rattle.lhg_row.specs.Values.{marked_value};
 ghost use Rattle.lhg_row.specs.Column.{coef_at};
 ghost use Rattle.lhg_row.specs.Width.{AllWide};
 ghost use Rattle.lhg_row.specs.PieceFacts.{IsPointOf};
@@ -16,7 +16,7 @@ use crate::bounds::{Limit, Side, chosen, tighten};
 use lhg_elim::eliminate;
 use lhg_num::{DivError, Frac, Halt, Scalar, Wide};
 use lhg_poly::Poly;
-use lhg_row::{Point, Row, System};
+use lhg_row::{Point, Row, System, value_from};
 use std::alloc::Global;
 use std::cmp::Ordering;
 
@@ -25,7 +25,6 @@ pub fn sample(alloc: Global, p: &Poly<Frac>) -> Result<Point<Frac>, Halt>
     ensures calculus { IsHaltedByRows result (calculus.sample p.now.width p.now.lines) (λ x. x) }
     ensures point { IfOk result (IsPointOf p.now.width p.now.lines) }
 {
-    let _ = p.rows();
     Ok(Point {
         at: values(alloc, p.system())?,
     })
@@ -131,22 +130,10 @@ fn divided(x: &Frac, y: &Frac) -> Result<Frac, Wide>
     }
 }
 
-// The sum of the products of the values and the coefficients that they have.
+// The value of the terms of the variables that have values.
 fn value(coefs: &[Frac], at: &[Frac]) -> Result<Frac, Wide>
     requires { length at.now ≤ length coefs.now }
     ensures { IsWideBy result (marked_value frac_arithmetic nought coefs.now at.now) (λ x. x) }
 {
-    let mut sum = Frac::zero();
-    for i in 0..at.len() {
-        sum = plus_product(&sum, &coefs[i], &at[i])?;
-    }
-    Ok(sum)
-}
-
-// sum + c * x
-fn plus_product(sum: &Frac, c: &Frac, x: &Frac) -> Result<Frac, Wide>
-    ensures { IsWideBy result (plus_product frac_arithmetic sum.now c.now x.now) (λ t. t) }
-{
-    let product = c.mul(x)?;
-    sum.add(&product)
+    value_from(Frac::zero(), &coefs[..at.len()], at)
 }

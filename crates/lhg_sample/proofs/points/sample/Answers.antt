@@ -13,4 +13,4 @@ returns-clause-point c =
     let items = c.in_ok-values.field-0.items in
     let is : items ≡ (sample p.width p.lines).value = c.in_ok-values.ensures.calculus ∙ ap (λ (s : PlainSystem). (sample s.width s.lines).value) c.system.ensures.system in
     let same : map (λ (q : Number). q) items ≡ (sample p.width p.lines).value = map-id items ∙ is in
-    subst (IsPointOf p.width p.lines) (sym same) (sample-in p.width p.lines c.rows.ensures.poly.wide c.rows.ensures.poly.point)
+    subst (IsPointOf p.width p.lines) (sym same) (sample-in p.width p.lines c.system.ensures.poly.wide c.system.ensures.poly.point)
