@@ -1,9 +1,10 @@
 // Known lists of pieces over x and y, and lists at their limits.
-ghost use Rattle.std.specs.Prelude.{◌≡◌, IfOk, IfSome, length};
+ghost use Rattle.std.specs.Prelude.{◌≡◌, ◌∷◌, [], IfOk, IfSome, length};
 ghost use Rattle.lhg_row.specs.Width.{AllWide};
 ghost use Rattle.lhg_union.specs.PolyLists.{AllVars};
+ghost use Rattle.lhg_union.specs.Regions.{polys_of};
 
-use crate::{PIECE_LIMIT, Region, covered, meet_lists, minus};
+use crate::{LIST_ROW_LIMIT, PIECE_LIMIT, Region, covered, meet_lists, minus};
 use lhg_num::{Frac, Halt};
 use lhg_poly::{Poly, make};
 use lhg_row::{Kind, Point, Row};
@@ -18,15 +19,23 @@ const FROM_0: Line = (-1, 0, Kind::Weak, 0);
 
 const FROM_2: Line = (-1, 0, Kind::Weak, -2);
 
+const ABOVE_0: Line = (-1, 0, Kind::Strict, 0);
+
 const ABOVE_2: Line = (-1, 0, Kind::Strict, -2);
 
 const ABOVE_3: Line = (-1, 0, Kind::Strict, -3);
 
 const BELOW_2: Line = (1, 0, Kind::Strict, 2);
 
+const UP_TO_2: Line = (1, 0, Kind::Weak, 2);
+
 const UP_TO_3: Line = (1, 0, Kind::Weak, 3);
 
 const UP_TO_10: Line = (1, 0, Kind::Weak, 10);
+
+const Y_FROM_4: Line = (0, -1, Kind::Weak, -4);
+
+const Y_UP_TO_5: Line = (0, 1, Kind::Weak, 5);
 
 fn row(alloc: Global, line: &Line) -> Result<Row<Frac>, Halt>
     ensures { IfOk result (λ r. length r.coefs ≡ 2) }
@@ -50,10 +59,12 @@ fn rows(alloc: Global, lines: &[Line]) -> Result<Vec<Row<Frac>>, Halt>
     Ok(out)
 }
 
-fn piece(alloc: Global, lines: &[Line]) -> Result<Option<Poly<Frac>>, Halt>
+// The piece of the lines, where they have a common point.
+fn made(alloc: Global, lines: &[Line]) -> Result<Option<Poly<Frac>>, Halt>
     ensures { IfOk result (λ o. IfSome o (λ p. p.width ≡ 2)) }
 {
-    make(alloc, 2, rows(alloc, lines)?)
+    let rows = rows(alloc, lines)?;
+    make(alloc, 2, rows)
 }
 
 // Puts the piece of the lines at the end of the list, where there is one.
@@ -61,7 +72,7 @@ fn push(alloc: Global, out: &mut Vec<Poly<Frac>>, lines: &[Line]) -> Result<(), 
     requires { AllVars 2 out.old.items }
     ensures { IfOk result (λ _. AllVars 2 out.new.items) }
 {
-    if let Some(piece) = piece(alloc, lines)? {
+    if let Some(piece) = made(alloc, lines)? {
         out.push(piece)?;
     }
     Ok(())
@@ -75,6 +86,112 @@ fn pieces(alloc: Global, list: &[[Line; 2]]) -> Result<Vec<Poly<Frac>>, Halt>
         push(alloc, &mut out, lines)?;
     }
     Ok(out)
+}
+
+// Whether these are the pieces.
+fn are(pieces: &[Poly<Frac>], list: &[[Line; 2]]) -> bool {
+    pieces.len() == list.len()
+        && pieces
+            .iter()
+            .zip(list)
+            .all(|(piece, lines)| has_rows(piece, lines))
+}
+
+fn has_rows(piece: &Poly<Frac>, lines: &[Line]) -> bool {
+    let rows = piece.rows();
+    rows.len() == lines.len() && rows.iter().zip(lines).all(|(row, line)| is(row, line))
+}
+
+fn is(row: &Row<Frac>, line: &Line) -> bool {
+    let (x, y, kind, bound) = *line;
+    row.coefs.as_slice() == [Frac::from(x), Frac::from(y)].as_slice()
+        && row.kind == kind
+        && row.bound == Frac::from(bound)
+}
+
+// What the second list leaves of the first.
+fn left(alloc: Global, first: &[[Line; 2]], second: &[[Line; 2]]) -> Result<Vec<Poly<Frac>>, Halt> {
+    let ps = pieces(alloc, first)?;
+    let qs = pieces(alloc, second)?;
+    minus(alloc, &ps, &qs)
+}
+
+#[test]
+fn takes_away(rt: HostRuntime) -> Result<(), Fail> {
+    let left = left(rt.alloc(), &[[FROM_0, UP_TO_10]], &[[FROM_2, UP_TO_3]])?;
+    assert!(rt; are(&left, &[[FROM_0, BELOW_2], [ABOVE_3, UP_TO_10]]));
+    Ok(())
+}
+
+#[test]
+fn takes_away_a_closed_end(rt: HostRuntime) -> Result<(), Fail> {
+    let left = left(rt.alloc(), &[[ABOVE_0, UP_TO_2]], &[[FROM_2, UP_TO_2]])?;
+    assert!(rt; are(&left, &[[ABOVE_0, BELOW_2]]));
+    Ok(())
+}
+
+#[test]
+fn takes_away_all(rt: HostRuntime) -> Result<(), Fail> {
+    let left = left(rt.alloc(), &[[ABOVE_0, UP_TO_2]], &[[ABOVE_0, UP_TO_2]])?;
+    assert!(rt; left.is_empty());
+    Ok(())
+}
+
+// Whether the second list covers the first.
+fn is_covered(alloc: Global, first: &[[Line; 2]], second: &[[Line; 2]]) -> Result<bool, Halt> {
+    let ps = pieces(alloc, first)?;
+    let qs = pieces(alloc, second)?;
+    covered(alloc, &ps, &qs)
+}
+
+#[test]
+fn covers(rt: HostRuntime) -> Result<(), Fail> {
+    for (second, want) in [
+        ([[FROM_0, BELOW_2], [FROM_2, UP_TO_10]], true),
+        ([[FROM_0, BELOW_2], [ABOVE_2, UP_TO_10]], false),
+        ([[FROM_0, BELOW_2], [FROM_2, UP_TO_3]], false),
+    ] {
+        assert_eq!(rt;
+            is_covered(rt.alloc(), &[[FROM_0, UP_TO_10]], &second)?,
+            want
+        );
+    }
+    Ok(())
+}
+
+// The common points of both lists.
+fn common(
+    alloc: Global,
+    first: &[[Line; 2]],
+    second: &[[Line; 2]],
+) -> Result<Vec<Poly<Frac>>, Halt> {
+    let ps = pieces(alloc, first)?;
+    let qs = pieces(alloc, second)?;
+    meet_lists(alloc, &ps, &qs)
+}
+
+#[test]
+fn meets_in_order(rt: HostRuntime) -> Result<(), Fail> {
+    let both = common(
+        rt.alloc(),
+        &[[FROM_0, UP_TO_10], [FROM_2, UP_TO_10]],
+        &[[FROM_0, UP_TO_3], [ABOVE_2, UP_TO_10]],
+    )?;
+    let want = [
+        [FROM_0, UP_TO_3],
+        [ABOVE_2, UP_TO_10],
+        [FROM_2, UP_TO_3],
+        [ABOVE_2, UP_TO_10],
+    ];
+    assert!(rt; are(&both, &want));
+    Ok(())
+}
+
+#[test]
+fn meets_nowhere(rt: HostRuntime) -> Result<(), Fail> {
+    let both = common(rt.alloc(), &[[FROM_0, BELOW_2]], &[[FROM_2, UP_TO_3]])?;
+    assert!(rt; both.is_empty());
+    Ok(())
 }
 
 // x = i and 0 <= y <= 10.
@@ -92,16 +209,6 @@ fn push_column(alloc: Global, out: &mut Vec<Poly<Frac>>, i: u16) -> Result<(), H
     push(alloc, out, &lines)
 }
 
-// So many copies of the piece.
-fn copies(alloc: Global, piece: &Poly<Frac>, count: usize) -> Result<Vec<Poly<Frac>>, Halt> {
-    let mut out = Vec::new(alloc);
-    for _ in 0..count {
-        let copy = piece.copy(alloc)?;
-        out.push(copy)?;
-    }
-    Ok(out)
-}
-
 // x = i and 0 <= y <= 10 for i from 1 to the count.
 fn columns(alloc: Global, count: u16) -> Result<Vec<Poly<Frac>>, Halt>
     ensures { IfOk result (λ v. AllVars 2 v.items) }
@@ -113,95 +220,75 @@ fn columns(alloc: Global, count: u16) -> Result<Vec<Poly<Frac>>, Halt>
     Ok(out)
 }
 
-// Whether these are the rows of the piece.
-fn are(piece: Option<&Poly<Frac>>, lines: &[Line]) -> bool {
-    match piece {
-        None => false,
-        Some(piece) => {
-            let rows = piece.rows();
-            rows.len() == lines.len() && rows.iter().zip(lines).all(|(row, line)| is(row, line))
-        }
-    }
-}
-
-fn is(row: &Row<Frac>, line: &Line) -> bool {
-    let (x, y, kind, bound) = *line;
-    row.coefs.as_slice() == [Frac::from(x), Frac::from(y)].as_slice()
-        && row.kind == kind
-        && row.bound == Frac::from(bound)
+// How many pieces 4 <= y <= 5 leaves of so many columns.
+fn left_of_columns(alloc: Global, count: u16) -> Result<usize, Halt> {
+    let ps = columns(alloc, count)?;
+    let qs = pieces(alloc, &[[Y_FROM_4, Y_UP_TO_5]])?;
+    Ok(minus(alloc, &ps, &qs)?.len())
 }
 
 #[test]
-fn takes_away_and_covers(rt: HostRuntime) -> Result<(), Fail> {
-    let alloc = rt.alloc();
-    let wide = pieces(alloc, &[[FROM_0, UP_TO_10]])?;
-    let narrow = pieces(alloc, &[[FROM_2, UP_TO_3]])?;
-    let left = minus(alloc, &wide, &narrow)?;
-    assert_eq!(rt; left.len(), 2);
-    assert!(rt; are(left.first(), &[FROM_0, BELOW_2]));
-    assert!(rt; are(left.last(), &[ABOVE_3, UP_TO_10]));
-    let halves = pieces(alloc, &[[FROM_0, BELOW_2], [FROM_2, UP_TO_10]])?;
-    assert_eq!(rt; covered(alloc, &wide, &halves)?, true);
-    assert_eq!(rt; covered(alloc, &wide, &narrow)?, false);
+fn takes_away_up_to_the_limit(rt: HostRuntime) -> Result<(), Fail> {
+    assert_eq!(rt; left_of_columns(rt.alloc(), 2048), Ok(4096));
+    assert_eq!(rt; left_of_columns(rt.alloc(), 2049), Err(Halt::Pieces));
     Ok(())
 }
 
-#[test]
-fn meets(rt: HostRuntime) -> Result<(), Fail> {
-    let alloc = rt.alloc();
-    let halves = pieces(alloc, &[[FROM_0, BELOW_2], [FROM_2, UP_TO_10]])?;
-    let open = pieces(alloc, &[[ABOVE_2, UP_TO_3]])?;
-    let both = meet_lists(alloc, &halves, &open)?;
-    assert_eq!(rt; both.len(), 1);
-    assert!(rt; are(both.first(), &[ABOVE_2, UP_TO_3]));
-    Ok(())
+// The region of one location with these pieces.
+fn region(alloc: Global, pieces: Vec<Poly<Frac>>) -> Result<Region<Frac>, Halt>
+    ensures { IfOk result (λ r. polys_of r.pieces.items ≡ pieces.items ∷ []) }
+{
+    let mut lists = Vec::with_capacity(alloc, 1)?;
+    lists.push(pieces)?;
+    Ok(Region { pieces: lists })
 }
 
-#[test]
-fn gathers_up_to_the_limit(rt: HostRuntime) -> Result<(), Fail> {
-    let alloc = rt.alloc();
-    let mut band = Vec::new(alloc);
-    push(
-        alloc,
-        &mut band,
-        &[(0, -1, Kind::Weak, -4), (0, 1, Kind::Weak, 5)],
-    )?;
-    let mut columns = columns(alloc, 2048)?;
-    assert_eq!(rt; minus(alloc, &columns, &band)?.len(), PIECE_LIMIT);
-    push_column(alloc, &mut columns, 2049)?;
-    assert_eq!(rt; minus(alloc, &columns, &band).err(), Some(Halt::Pieces));
-    Ok(())
-}
-
-#[test]
-fn regions_hold_and_grow(rt: HostRuntime) -> Result<(), Fail> {
-    let alloc = rt.alloc();
-    let mut lists = Vec::new(alloc);
-    lists.push(pieces(alloc, &[[FROM_0, BELOW_2]])?)?;
-    let narrow = piece(alloc, &[FROM_2, UP_TO_3])?.ok_or("none")?;
-    lists.push(copies(alloc, &narrow, PIECE_LIMIT)?)?;
-    let mut region = Region { pieces: lists };
-    assert!(rt; region.pieces.len() == 2);
-    let more = narrow.copy(alloc)?;
-    assert_eq!(rt; region.add(0, narrow), Ok(()));
-    assert!(rt; region.pieces.len() == 2);
-    assert_eq!(rt; region.add(1, more), Err(Halt::Pieces));
-    assert_eq!(rt; region.pieces.first().map(Vec::len), Some(2));
-    assert_eq!(rt; region.pieces.last().map(Vec::len), Some(PIECE_LIMIT));
-    Ok(())
+// Whether the point with this x and the y 0 is in the region of these pieces.
+fn is_held(alloc: Global, list: &[[Line; 2]], x: i64) -> Result<bool, Fail> {
+    let pieces = pieces(alloc, list)?;
+    let region = region(alloc, pieces)?;
+    let at = [Frac::from(x), Frac::from(0)].to_vec(alloc)?;
+    Ok(region.contains(0, &Point { at })?)
 }
 
 #[test]
 fn regions_tell_points(rt: HostRuntime) -> Result<(), Fail> {
-    let alloc = rt.alloc();
-    let mut lists = Vec::new(alloc);
-    lists.push(pieces(alloc, &[[FROM_0, BELOW_2], [ABOVE_3, UP_TO_10]])?)?;
-    let region = Region { pieces: lists };
+    let list = [[FROM_0, BELOW_2], [ABOVE_3, UP_TO_10]];
     for (x, want) in [(0, true), (2, false), (3, false), (4, true), (11, false)] {
-        let point = Point {
-            at: [Frac::from(x), Frac::from(0)].to_vec(alloc)?,
-        };
-        assert!(rt; region.contains(0, &point) == Ok(want));
+        assert_eq!(rt; is_held(rt.alloc(), &list, x)?, want);
     }
+    assert!(rt; !is_held(rt.alloc(), &[], 0)?);
+    Ok(())
+}
+
+// So many copies of the piece.
+fn copies(alloc: Global, piece: &Poly<Frac>, count: usize) -> Result<Vec<Poly<Frac>>, Halt> {
+    let mut out = Vec::new(alloc);
+    for _ in 0..count {
+        let copy = piece.copy(alloc)?;
+        out.push(copy)?;
+    }
+    Ok(out)
+}
+
+// Adds one piece to a region of so many: the refusal, and the length of the list.
+fn added(alloc: Global, piece: Poly<Frac>, count: usize) -> Result<(Option<Halt>, usize), Halt> {
+    let pieces = copies(alloc, &piece, count)?;
+    let mut region = region(alloc, pieces)?;
+    let refusal = region.add(0, piece).err();
+    Ok((refusal, region.pieces.first().map_or(0, Vec::len)))
+}
+
+#[test]
+fn regions_grow_up_to_the_limit(rt: HostRuntime) -> Result<(), Fail> {
+    for (count, want) in [
+        (0, (None, 1)),
+        (4095, (None, 4096)),
+        (4096, (Some(Halt::Pieces), 4096)),
+    ] {
+        let piece = made(rt.alloc(), &[FROM_0, BELOW_2])?.ok_or("none")?;
+        assert_eq!(rt; added(rt.alloc(), piece, count)?, want);
+    }
+    assert_eq!(rt; (PIECE_LIMIT, LIST_ROW_LIMIT), (4096, 16384));
     Ok(())
 }
