@@ -1,9 +1,6 @@
-pub mod Appended
 pub mod Complete
 pub mod Members
 pub mod RegionTexts
-pub mod RowTerms
-pub mod RowTexts
 pub mod SmallRegion
 pub mod SmallSolution
 pub mod WholeOrder

@@ -5,7 +5,7 @@ use Rattle.lhg_plant.specs.Plant.{PlainPlant, PlainLocation, PlainSwitch}
 use Rattle.lhg_plant.specs.Region.{PlainRegion, PlainGuards}
 use Rattle.lhg_plant.specs.Controller.{PlainController}
 use Rattle.lhg_plant.specs.Loss.{PlainLoss, PlainCause, by_env, by_leave, by_flow}
-use Rattle.lhg_cli.specs.RowText.{rows_text}
+use Rattle.lhg_text.specs.RowText.{rows_text}
 
 -- the text and a line feed
 abbrev pub line : List ℕ → List ℕ

@@ -3,10 +3,7 @@
 
 mod answers;
 mod kept;
-pub mod laws;
-mod numbers;
 mod pieces;
-mod rows;
 mod status;
 mod still;
 #[cfg(test)]

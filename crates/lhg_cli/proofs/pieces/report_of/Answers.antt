@@ -1,6 +1,6 @@
 use Rattle.lhg_plant.specs.Views.{plain_plant}
 use Rattle.lhg_cli.specs.Pieces.{plain_region}
-use Rattle.lhg_cli.proofs.Appended.{joined}
+use Rattle.lhg_text.proofs.Appended.{joined}
 use Rattle.lhg_cli.proofs.RegionTexts.{report_text-pieces}
 use Rattle.lhg_cli.proofs.pieces.report_of.Goals as goal
 

@@ -2,7 +2,7 @@ use Rattle.std.proofs.Common.{subst, sym}
 use Rattle.lhg_plant.specs.Views.{plain_plant}
 use Rattle.lhg_cli.specs.Pieces.{plain_region}
 use Rattle.lhg_cli.specs.Small.{IsSmallRegion}
-use Rattle.lhg_cli.proofs.Appended.{if_ok_map}
+use Rattle.lhg_text.proofs.Appended.{if_ok_map}
 use Rattle.lhg_cli.proofs.SmallSolution.{small_report}
 use Rattle.lhg_cli.proofs.still.report.Goals as goal
 

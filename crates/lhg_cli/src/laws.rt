@@ -1,7 +1,0 @@
-// How texts look, on small examples.
-ghost use Rattle.lhg_cli.specs.TextExamples.{RowExamples};
-
-/// Rows and lists of rows as they are printed.
-pub fn law_texts()
-    ensures { RowExamples }
-{}

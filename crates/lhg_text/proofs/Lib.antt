@@ -1,0 +1,17 @@
+pub mod Appended
+pub mod Cutting
+pub mod LineText
+pub mod Magnitudes
+pub mod NumberTokens
+pub mod OldNames
+pub mod Places
+pub mod PlantLines
+pub mod PlantReads
+pub mod RowReads
+pub mod RowTerms
+pub mod RowTexts
+pub mod RowTokens
+pub mod RowsRead
+pub mod Shorts
+pub mod SumReads
+pub mod TokenKinds

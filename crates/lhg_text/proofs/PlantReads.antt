@@ -1,0 +1,296 @@
+-- The text of a plant is a plant of the grammar, and its value is that plant.
+use Rattle.std.proofs.Common.{◌≡◌, ◌<◌, ◌≤◌, ℕ, zero, suc, List, [], ◌∷◌, ◌++◌, length, take, drop, get_or, map, refl, sym, ap, ◌∙◌, subst, Bool, true, false, not, ◌||◌, ◌&&◌, ◌==◌, Option, Some, None, Ok, Result, arith, codes, append_assoc}
+use Rattle.std.specs.Prelude.{slice_get}
+use Rattle.std.specs.List.{list_all, list_any, flat_map}
+use Rattle.std.specs.Option.{option_map, option_and_then}
+use Rattle.std.proofs.lemmas.Bool.{and_parts}
+use Rattle.std.proofs.lemmas.Bool.Decides.{nat_tests}
+use Rattle.std.proofs.lemmas.List.{length-map, length-take-le, take-append-drop}
+use Rattle.std.proofs.Common.{drop-cons}
+use Rattle.lhg_math.specs.Number.{unit}
+use Rattle.lhg_math.specs.Tests.{by_bool}
+use Rattle.lhg_lex.specs.Lines.{lines_of}
+use Rattle.lhg_lex.specs.LineTokens.{Spot, Fault, tokens_of}
+use Rattle.lhg_lex.specs.Longest.{longest}
+use Rattle.lhg_lex.specs.PlainToken.{PlainToken, word, number}
+use Rattle.lhg_lex.proofs.TextLawProofs.{text_laws}
+use Rattle.lhg_row.specs.Members.{AllOf}
+use Rattle.lhg_row.specs.Piece.{PlainPiece}
+use Rattle.lhg_plant.specs.Plant.{PlainLocation, PlainSwitch, PlainPlant}
+use Rattle.lhg_plant.specs.Word.{IsName, IsVariable}
+use Rattle.lhg_read.specs.Names.{vars_of, all_differ}
+use Rattle.lhg_read.specs.Options.{joined}
+use Rattle.lhg_read.specs.PlantLine.{PlantLine, WrittenSwitch, BlockLine, safe, switch, end, line_of}
+use Rattle.lhg_read.specs.PlantText.{Block, IsBlock, block_lines, invs_of, flows_of, safes_of, location_of, switch_at, said_in, IsHead, IsPlant, IsPlantText, most_safe_lines, most_locations, most_switches}
+use Rattle.lhg_read.specs.PlantText as read
+use Rattle.lhg_read.specs.Term.{place_of}
+use Rattle.lhg_read.specs.TokenText.{token_line, token_lines}
+use Rattle.lhg_read.specs.declared.forms.Form.TheVariants.{Jump}
+use Rattle.lhg_text.specs.PlantText.{line, spaced, location_name, location_lines, switch_line, plant_lines, plant_text}
+use Rattle.lhg_text.proofs.LineText.{is_inner, Says, says_space, says_token, line_says}
+use Rattle.lhg_text.proofs.Places.{place_at, not_before}
+use Rattle.lhg_text.proofs.TokenKinds.{word_token}
+use Rattle.lhg_text.proofs.PlantLines.{IsWord, word_says, AreNames, AreRows, AreVariables, IsLineOf, AreLinesOf, lines-append, IsLocationOver, block_of, location_is, switch_is, end_line, vars_read}
+
+-- ---- the lines of the text
+
+-- a line of inner bytes alone
+record IsInner (bytes : List ℕ) : Type 0 where
+  inner : list_all is_inner bytes ≡ true
+
+no_feed : (bytes : List ℕ) → list_all is_inner bytes ≡ true → list_any (λ b. b == 10) bytes ≡ false
+no_feed [] h = refl
+no_feed (b ∷ bytes) h =
+    let p = and_parts (is_inner b) (list_all is_inner bytes) h in
+    let e : (b == 10) ≡ false = grind (arith, nat_tests) in
+    rw e (no_feed bytes p.1)
+
+lines_back : (lines : List (List ℕ)) → AllOf IsInner lines → lines_of (flat_map line lines) ≡ lines
+lines_back [] h = refl
+lines_back (l ∷ lines) h =
+    ap lines_of (append_assoc l (10 ∷ []) (flat_map line lines)) ∙ text_laws.fed l (flat_map line lines) (no_feed l h.0.inner) ∙ ap (λ ls. l ∷ ls) (lines_back lines h.1)
+
+-- ---- the tokens of the lines
+
+spots_some : (spots : List Spot) (first : PlainToken) (others : List PlainToken) → said_in spots ≡ first ∷ others → token_line (Ok spots) ≡ Some (spots ∷ [])
+spots_some [] first others h = absurd cc
+spots_some (spot ∷ spots) first others h = refl
+
+-- one line more
+token_lines-cons : (l : List ℕ) (lines : List (List ℕ)) (first : PlainToken) (others : List PlainToken) (more : List (List Spot)) (s : Says l (first ∷ others)) → token_lines lines ≡ Some more → token_lines (l ∷ lines) ≡ Some (s.spots 0 ∷ more)
+token_lines-cons l lines first others more s h =
+    let e : token_line (tokens_of l) ≡ Some (s.spots 0 ∷ []) = ap token_line (line_says s) ∙ spots_some (s.spots 0) first others (s.says 0) in
+    rw (e, h) refl
+
+-- the tokens of lines, and what they say
+record AreTokens (vars : List (List ℕ)) (lines : List (List ℕ)) (values : List PlantLine) : Type 0 where
+  tokens : List (List Spot)
+  are : token_lines lines ≡ Some tokens
+  say : map (λ l. line_of vars (said_in l)) tokens ≡ map (λ v. Some v) values
+  inner : AllOf IsInner lines
+
+cons_both : (x y : Option PlantLine) (xs ys : List (Option PlantLine)) → x ≡ y → xs ≡ ys → (x ∷ xs) ≡ (y ∷ ys)
+cons_both x y xs ys h k = ap (λ z. z ∷ xs) h ∙ ap (λ zs. y ∷ zs) k
+
+lines_read : (vars : List (List ℕ)) (lines : List (List ℕ)) (values : List PlantLine) → AreLinesOf vars lines values → AreTokens vars lines values
+lines_read vars [] [] h = record { tokens = []; are = refl; say = refl; inner = tt }
+lines_read vars [] (v ∷ values) h = absurd h
+lines_read vars (l ∷ lines) [] h = absurd h
+lines_read vars (l ∷ lines) (v ∷ values) h =
+    let more = lines_read vars lines values h.1 in
+    let s = h.0.says in
+    record {
+      tokens = s.spots 0 ∷ more.tokens;
+      are = token_lines-cons l lines h.0.first h.0.others more.tokens s more.are;
+      say = cons_both _ _ _ _ (ap (line_of vars) (s.says 0) ∙ h.0.reads) more.say;
+      inner = (record { inner = s.inner }, more.inner);
+    }
+
+-- ---- the locations and the switches
+
+locations_are : (vars : List (List ℕ)) (locs : List PlainLocation) → AreNames vars → AllOf (IsLocationOver vars) locs → AreLinesOf vars (flat_map (location_lines vars) locs) (flat_map block_lines (map block_of locs))
+locations_are vars [] names h = tt
+locations_are vars (l ∷ locs) names h =
+    lines-append vars (location_lines vars l) (block_lines (block_of l)) (flat_map (location_lines vars) locs) (flat_map block_lines (map block_of locs)) (location_is vars l names h.0) (locations_are vars locs names h.1)
+
+-- a switch as it is written: its locations by their names
+abbrev written : List PlainLocation → PlainSwitch → WrittenSwitch
+written locs s = record { name = s.name; side = s.side; from = location_name (slice_get locs s.from); to = location_name (slice_get locs s.to); jump = s.jump }
+
+-- what printing asks of a switch
+pub record IsSwitchOver (vars : List (List ℕ)) (locs : List PlainLocation) (s : PlainSwitch) : Type 0 where
+  pub name : IsName s.name
+  pub from : s.from < length locs
+  pub to : s.to < length locs
+  pub jump : AreRows Jump vars s.jump
+
+-- a location is found by its name
+name_of_place : (locs : List PlainLocation) (i : ℕ) → i < length locs → location_name (slice_get locs i) ≡ get_or (map (λ l. l.name) locs) i []
+name_of_place [] i h = absurd (omega arith)
+name_of_place (l ∷ locs) zero h = refl
+name_of_place (l ∷ locs) (suc i) h = name_of_place locs i (omega arith)
+
+is_named : (vars : List (List ℕ)) (locs : List PlainLocation) (i : ℕ) → i < length locs → AllOf (IsLocationOver vars) locs → IsName (location_name (slice_get locs i))
+is_named vars [] i h k = absurd (omega arith)
+is_named vars (l ∷ locs) zero h k = k.0.name
+is_named vars (l ∷ locs) (suc i) h k = is_named vars locs i (omega arith) k.1
+
+place_of_name : (names : List (List ℕ)) (i : ℕ) → i < length names → all_differ names ≡ true → place_of (get_or names i []) names ≡ Some i
+place_of_name names i h differ =
+    let w = get_or names i [] in
+    let split : names ≡ take i names ++ (w ∷ drop (suc i) names) = sym (take-append-drop i names) ∙ ap (λ ns. take i names ++ ns) (drop-cons names i [] h) in
+    let none = not_before w (take i names) (drop (suc i) names) (ap all_differ (sym split) ∙ differ) in
+    ap (place_of w) split ∙ place_at w (take i names) (drop (suc i) names) none ∙ ap (λ (n : ℕ). Some n) (length-take-le i names (omega arith))
+
+place_back : (locs : List PlainLocation) (i : ℕ) → i < length locs → all_differ (map (λ l. l.name) locs) ≡ true → place_of (location_name (slice_get locs i)) (map (λ l. l.name) locs) ≡ Some i
+place_back locs i h differ =
+    let size = length-map locs (λ l. l.name) in
+    ap (λ w. place_of w (map (λ l. l.name) locs)) (name_of_place locs i h) ∙ place_of_name (map (λ l. l.name) locs) i (omega arith) differ
+
+switch_back : (vars : List (List ℕ)) (locs : List PlainLocation) (s : PlainSwitch) → all_differ (map (λ l. l.name) locs) ≡ true → IsSwitchOver vars locs s → switch_at (map (λ l. l.name) locs) (written locs s) ≡ Some s
+switch_back vars locs s differ h =
+    let from = place_back locs s.from h.from differ in
+    let to = place_back locs s.to h.to differ in
+    rw (from, to) refl
+
+-- what printing asks of a plant
+pub record IsPrintedPlant (a : PlainPlant) : Type 0 where
+  pub vars : AreVariables a.vars
+  pub locs : AllOf (IsLocationOver a.vars) a.locs
+  pub some_locs : 0 < length a.locs
+  pub few_locs : length a.locs ≤ most_locations
+  pub locs_differ : all_differ (map (λ l. l.name) a.locs) ≡ true
+  pub few_safe : AllOf (λ l. length l.safe ≤ most_safe_lines) a.locs
+  pub switches : AllOf (IsSwitchOver a.vars a.locs) a.switches
+  pub few_switches : length a.switches ≤ most_switches
+  pub switches_differ : all_differ (map (λ s. s.name) a.switches) ≡ true
+
+switches_back : (vars : List (List ℕ)) (locs : List PlainLocation) (switches : List PlainSwitch) → all_differ (map (λ l. l.name) locs) ≡ true → AllOf (IsSwitchOver vars locs) switches
+    → map (switch_at (map (λ l. l.name) locs)) (map (written locs) switches) ≡ map (λ s. Some s) switches
+switches_back vars locs [] differ h = refl
+switches_back vars locs (s ∷ switches) differ h =
+    let first = switch_back vars locs s differ h.0 in
+    let more = switches_back vars locs switches differ h.1 in
+    ap (λ o. o ∷ map (switch_at (map (λ l. l.name) locs)) (map (written locs) switches)) first ∙ ap (λ os. Some s ∷ os) more
+
+-- the lines of the switches and the end
+switches_are : (a : PlainPlant) (switches : List PlainSwitch) → AreNames a.vars → AllOf (IsLocationOver a.vars) a.locs → AllOf (IsSwitchOver a.vars a.locs) switches
+    → AreLinesOf a.vars (map (switch_line a) switches ++ codes "end" ∷ []) (map (λ s. switch s) (map (written a.locs) switches) ++ end ∷ [])
+switches_are a [] names locs h = (end_line a.vars, tt)
+switches_are a (s ∷ switches) names locs h = (
+  switch_is a.vars (written a.locs s) names h.0.name (is_named a.vars a.locs s.from h.0.from locs) (is_named a.vars a.locs s.to h.0.to locs) h.0.jump,
+  switches_are a switches names locs h.1,
+)
+
+-- ---- the blocks
+
+invs_of_safes : (lists : List PlainPiece) → invs_of (map (λ rows. safe rows) lists) ≡ []
+invs_of_safes [] = refl
+invs_of_safes (rows ∷ lists) = invs_of_safes lists
+
+flows_of_safes : (lists : List PlainPiece) → flows_of (map (λ rows. safe rows) lists) ≡ []
+flows_of_safes [] = refl
+flows_of_safes (rows ∷ lists) = flows_of_safes lists
+
+safes_of_safes : (lists : List PlainPiece) → safes_of (map (λ rows. safe rows) lists) ≡ lists
+safes_of_safes [] = refl
+safes_of_safes (rows ∷ lists) = ap (λ more. rows ∷ more) (safes_of_safes lists)
+
+block_is : (l : PlainLocation) → length l.safe ≤ most_safe_lines → IsBlock (block_of l)
+block_is l h =
+    let i = invs_of_safes l.safe in
+    let f = flows_of_safes l.safe in
+    let s = safes_of_safes l.safe in
+    record { one_inv = rw i (omega arith); one_flow = rw f (omega arith); few_safe = rw s h }
+
+-- a block's location
+location_back : (n : ℕ) (l : PlainLocation) → location_of n (block_of l) ≡ l
+location_back n l = let s = safes_of_safes l.safe in ap (λ lists. record l { safe = lists }) s
+
+blocks_are : (locs : List PlainLocation) → AllOf (λ l. length l.safe ≤ most_safe_lines) locs → AllOf IsBlock (map block_of locs)
+blocks_are [] h = tt
+blocks_are (l ∷ locs) h = (block_is l h.0, blocks_are locs h.1)
+
+locations_back : (n : ℕ) (locs : List PlainLocation) → locs ≡ map (location_of n) (map block_of locs)
+locations_back n [] = refl
+locations_back n (l ∷ locs) = ap (λ k. k ∷ locs) (sym (location_back n l)) ∙ ap (λ ks. location_of n (block_of l) ∷ ks) (locations_back n locs)
+
+block_names : (locs : List PlainLocation) → map (λ b. b.name) (map block_of locs) ≡ map (λ l. l.name) locs
+block_names [] = refl
+block_names (l ∷ locs) = ap (λ ws. l.name ∷ ws) (block_names locs)
+
+switch_names : (locs : List PlainLocation) (switches : List PlainSwitch) → map (λ w. w.name) (map (written locs) switches) ≡ map (λ s. s.name) switches
+switch_names locs [] = refl
+switch_names locs (s ∷ switches) = ap (λ ws. s.name ∷ ws) (switch_names locs switches)
+
+-- ---- the plant
+
+head_spots : List Spot
+head_spots = record { says = word (codes "lhg"); from = 0; to = 3 } ∷ record { says = number unit; from = 4; to = 5 } ∷ []
+
+head_says : tokens_of (codes "lhg 1") ≡ Ok head_spots
+unfolding head_spots tokens_of longest unit
+head_says = refl
+
+head_is : IsHead head_spots
+unfolding head_spots
+head_is = record { from = 0; to = 3; at = 4; is = refl }
+
+all_names : (vars : List (List ℕ)) → AllOf IsVariable vars → AllOf IsName vars
+all_names [] h = tt
+all_names (w ∷ vars) h = (h.0.name, all_names vars h.1)
+
+vars_words : (ws : List (List ℕ)) → AllOf IsVariable ws → AllOf IsWord ws
+vars_words [] h = tt
+vars_words (w ∷ ws) h = (record { word = h.0.name.word }, vars_words ws h.1)
+
+vars_say : (w : List ℕ) (ws : List (List ℕ)) → IsWord w → AllOf IsWord ws → Says (spaced (w ∷ ws)) (word w ∷ map (λ v. word v) ws)
+vars_say w [] h k = word_says w h.word
+vars_say w (v ∷ ws) h k =
+    let behind = 32 ∷ spaced (v ∷ ws) in
+    says_token w behind (word w) (word_token w behind h.word refl) (says_space (vars_say v ws k.0 k.1))
+
+module _ (a : PlainPlant) (h : IsPrintedPlant a) where
+  blocks : List Block
+  blocks = map block_of a.locs
+
+  switches : List WrittenSwitch
+  switches = map (written a.locs) a.switches
+
+  names : AreNames a.vars
+  names = record { names = all_names a.vars h.vars.variables; differ = h.vars.differ }
+
+  -- the lines behind that of the variables
+  rest : List (List ℕ)
+  rest = flat_map (location_lines a.vars) a.locs ++ (map (switch_line a) a.switches ++ codes "end" ∷ [])
+
+  rest_tokens : AreTokens a.vars rest (read.plant_lines blocks switches)
+  unfolding blocks switches rest
+  rest_tokens =
+      lines_read a.vars rest (read.plant_lines blocks switches)
+      (lines-append a.vars (flat_map (location_lines a.vars) a.locs) (flat_map block_lines blocks) (map (switch_line a) a.switches ++ codes "end" ∷ []) (map (λ s. switch s) switches ++ end ∷ [])
+        (locations_are a.vars a.locs names h.locs) (switches_are a a.switches names h.locs h.switches))
+
+  vars_tokens : Says (spaced (codes "vars" ∷ a.vars)) (word (codes "vars") ∷ map (λ w. word w) a.vars)
+  vars_tokens = vars_say (codes "vars") a.vars (record { word = refl }) (vars_words a.vars h.vars.variables)
+
+  plant_is : IsPlant (head_spots ∷ vars_tokens.spots 0 ∷ rest_tokens.tokens) a
+  unfolding blocks switches
+  plant_is =
+      let size = length-map a.locs block_of in
+      let count = length-map a.switches (written a.locs) in
+      let names = block_names a.locs in
+      record {
+        head = head_spots;
+        vars = vars_tokens.spots 0;
+        rest = rest_tokens.tokens;
+        blocks = blocks;
+        switches = switches;
+        lines_are = refl;
+        head_is = head_is;
+        vars_are = ap vars_of (vars_tokens.says 0) ∙ vars_read a.vars h.vars;
+        rest_are = rest_tokens.say;
+        each_block = blocks_are a.locs h.few_safe;
+        locs_are = locations_back (length a.vars) a.locs;
+        some_locs = rw size h.some_locs;
+        few_locs = rw size h.few_locs;
+        locs_differ = rw names h.locs_differ;
+        switches_are = rw names (switches_back a.vars a.locs a.switches h.locs_differ h.switches);
+        few_switches = rw count h.few_switches;
+        switches_differ = ap all_differ (switch_names a.locs a.switches) ∙ h.switches_differ;
+      }
+
+  all_lines : token_lines (plant_lines a) ≡ Some (head_spots ∷ vars_tokens.spots 0 ∷ rest_tokens.tokens)
+  unfolding rest head_spots
+  all_lines =
+      let vars = token_lines-cons (spaced (codes "vars" ∷ a.vars)) rest (word (codes "vars")) (map (λ w. word w) a.vars) rest_tokens.tokens vars_tokens rest_tokens.are in
+      let head = head_says in
+      rw (head, vars) refl
+
+  -- the text of a plant is a plant of the grammar, and this is its value
+  pub plant_reads : IsPlantText (lines_of (plant_text a)) a
+  unfolding rest
+  plant_reads =
+      let inner : AllOf IsInner (plant_lines a) = (record { inner = refl }, (record { inner = vars_tokens.inner }, rest_tokens.inner)) in
+      subst (λ lines. IsPlantText lines a) (sym (lines_back (plant_lines a) inner))
+      (record { tokens = head_spots ∷ vars_tokens.spots 0 ∷ rest_tokens.tokens; are = all_lines; is = plant_is })

@@ -1,0 +1,4 @@
+pub mod PlantText
+pub mod RowText
+pub mod Short
+pub mod TextExamples

@@ -1,0 +1,50 @@
+-- The text of a plant.
+use Rattle.std.specs.Prelude.{ℕ, List, [], ◌∷◌, ◌++◌, codes, map, Option, Some, None, slice_get}
+use Rattle.std.specs.List.{flat_map, join_with_byte}
+use Rattle.lhg_plant.specs.declared.plants.Side.{Side}
+use Rattle.lhg_plant.specs.declared.plants.Side.TheVariants.{Ctl, Env}
+use Rattle.lhg_row.specs.Piece.{PlainPiece}
+use Rattle.lhg_plant.specs.Plant.{PlainLocation, PlainSwitch, PlainPlant}
+use Rattle.lhg_text.specs.RowText.{rows_text, jump_names}
+
+-- the text and a line feed
+abbrev pub line : List ℕ → List ℕ
+line text = text ++ 10 ∷ []
+
+-- words with one space between each two
+abbrev pub spaced : List (List ℕ) → List ℕ
+spaced words = join_with_byte 32 words
+
+abbrev pub side_text : Side → List ℕ
+side_text Ctl = codes "ctl"
+side_text Env = codes "env"
+
+abbrev pub location_name : Option PlainLocation → List ℕ
+location_name None = []
+location_name (Some l) = l.name
+
+-- the line of one list of safe states
+abbrev pub safe_line : List (List ℕ) → PlainPiece → List ℕ
+safe_line vars rows = spaced (codes "safe" ∷ rows_text vars rows ∷ [])
+
+-- the lines of a location, in order
+abbrev pub location_lines : List (List ℕ) → PlainLocation → List (List ℕ)
+location_lines vars l =
+    spaced (codes "loc" ∷ l.name ∷ [])
+    ∷ spaced (codes "inv" ∷ rows_text vars l.inv ∷ [])
+    ∷ spaced (codes "flow" ∷ rows_text vars l.flow ∷ [])
+    ∷ map (safe_line vars) l.safe
+
+-- the line of a switch; the new variables come after the old ones, with `'`
+abbrev pub switch_line : PlainPlant → PlainSwitch → List ℕ
+switch_line a s =
+    spaced (codes "switch" ∷ s.name ∷ side_text s.side ∷ location_name (slice_get a.locs s.from) ∷ location_name (slice_get a.locs s.to) ∷ rows_text (jump_names a.vars) s.jump ∷ [])
+
+-- the lines of a plant: the head, the variables, the locations, the switches, and the end
+abbrev pub plant_lines : PlainPlant → List (List ℕ)
+plant_lines a =
+    codes "lhg 1" ∷ spaced (codes "vars" ∷ a.vars) ∷ (flat_map (location_lines a.vars) a.locs ++ (map (switch_line a) a.switches ++ codes "end" ∷ []))
+
+-- each line ends with a line feed
+abbrev pub plant_text : PlainPlant → List ℕ
+plant_text a = flat_map line (plant_lines a)

@@ -1,0 +1,33 @@
+-- Which numbers can be read again: those whose parts are no larger than digits that are read may stand for?
+use Rattle.std.specs.Prelude.{◌≤◌}
+use Rattle.std.specs.Int.RustNames.{unsigned_abs}
+use Rattle.lhg_math.specs.Number.{Number}
+use Rattle.lhg_lex.specs.Literal.{limit}
+use Rattle.lhg_row.specs.Members.{AllOf}
+use Rattle.lhg_row.specs.Piece.{PlainPiece}
+use Rattle.lhg_row.specs.Row.{PlainRow}
+use Rattle.lhg_plant.specs.Plant.{PlainLocation, PlainSwitch, PlainPlant}
+
+-- the size of the numerator and the denominator are within the limit
+pub record IsShort (x : Number) : Type 0 where
+  pub top : unsigned_abs x.top ≤ limit
+  pub bottom : x.bottom ≤ limit
+
+-- so are those of a row's numbers
+pub record IsShortRow (r : PlainRow) : Type 0 where
+  pub coefs : AllOf IsShort r.coefs
+  pub bound : IsShort r.bound
+
+abbrev pub AllShort : PlainPiece → Type 0
+AllShort rows = AllOf IsShortRow rows
+
+-- those of a location's rows
+pub record IsShortLocation (l : PlainLocation) : Type 0 where
+  pub inv : AllShort l.inv
+  pub flow : AllShort l.flow
+  pub safe : AllOf AllShort l.safe
+
+-- and those of a plant's
+pub record IsShortPlant (a : PlainPlant) : Type 0 where
+  pub locs : AllOf IsShortLocation a.locs
+  pub switches : AllOf (λ s. AllShort s.jump) a.switches
