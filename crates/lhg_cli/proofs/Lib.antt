@@ -1,5 +1,4 @@
 pub mod Complete
-pub mod Members
 pub mod RegionTexts
 pub mod SmallRegion
 pub mod SmallSolution

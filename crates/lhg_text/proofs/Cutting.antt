@@ -1,5 +1,5 @@
 -- How lists are cut that are put together of parts.
-use Rattle.std.proofs.Common.{◌≡◌, List, [], ◌∷◌, ◌++◌, refl, ap, Bool, true, false, not}
+use Rattle.std.proofs.Common.{◌≡◌, List, [], ◌∷◌, ◌++◌, refl, Bool, true, not}
 use Rattle.std.specs.List.{list_all}
 use Rattle.lhg_math.specs.Tests.{by_bool}
 use Rattle.lhg_read.specs.Cut.{Cut, cut}

@@ -2,11 +2,13 @@ pub mod Appended
 pub mod Cutting
 pub mod LineText
 pub mod Magnitudes
+pub mod Members
 pub mod NumberTokens
 pub mod OldNames
 pub mod Places
 pub mod PlantLines
 pub mod PlantReads
+pub mod PlantTexts
 pub mod RowReads
 pub mod RowTerms
 pub mod RowTexts

@@ -1,14 +1,14 @@
 -- What does a printed line say, token by token?
-use Rattle.std.proofs.Common.{◌≡◌, ◌<◌, ◌+◌, ℕ, List, [], ◌∷◌, ◌++◌, length, take, drop, refl, sym, ap, ◌∙◌, Bool, true, false, arith, ◌==◌, ◌||◌, ◌&&◌, not, Ok}
+use Rattle.std.proofs.Common.{◌≡◌, ◌+◌, ℕ, List, [], ◌∷◌, ◌++◌, length, refl, sym, ap, ◌∙◌, Bool, true, false, arith, ◌==◌, ◌&&◌, not, Ok}
 use Rattle.std.specs.List.{list_all, before_first}
-use Rattle.std.proofs.lemmas.Bool.{and_parts, true≢false}
+use Rattle.std.proofs.lemmas.Bool.{and_parts}
 use Rattle.std.proofs.lemmas.Bool.Decides.{nat_tests}
 use Rattle.std.proofs.lemmas.List.Folds.{list_all-append}
 use Rattle.std.proofs.Math.Seq.{take-append_seam, drop-append_seam}
 use Rattle.lhg_lex.specs.PlainToken.{PlainToken}
 use Rattle.lhg_lex.specs.Token.{said, signs_said, is_sign_byte}
 use Rattle.lhg_lex.specs.Longest.{IsLongest}
-use Rattle.lhg_lex.specs.LineTokens.{Spot, without_return, content_of, is_separator, taken, tokens_from, tokens_of}
+use Rattle.lhg_lex.specs.LineTokens.{Spot, without_return, is_separator, taken, tokens_from, tokens_of}
 use Rattle.lhg_lex.proofs.Bytes.{separator_not_word, separator_not_digit, separator_not_sign, pair_needs_sign}
 use Rattle.lhg_lex.proofs.Fronts.{suc_is}
 use Rattle.lhg_lex.proofs.LongestLemmas.{longest_is}

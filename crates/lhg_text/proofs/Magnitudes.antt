@@ -1,6 +1,6 @@
 -- A number without its sign is the number or its negative.
-use Rattle.std.proofs.Common.{◌≡◌, refl, sym, ap, ◌∙◌, subst, Bool, true, false, cond}
-use Rattle.std.proofs.Math.IntN.{ℤ, pos}
+use Rattle.std.proofs.Common.{◌≡◌, refl, sym, ap, ◌∙◌, subst, true, false}
+use Rattle.std.proofs.Math.IntN.{pos}
 use Rattle.std.specs.Int.RustNames.{unsigned_abs}
 use Rattle.lhg_math.specs.Number.{Number, ratio, neg, lt, nought, whole, ratio_suc}
 use Rattle.lhg_math.specs.NumberOrder.{positive_top, lt-nought_neg, lt_antisymm}

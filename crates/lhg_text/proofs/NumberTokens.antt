@@ -1,10 +1,10 @@
 -- Which token is a number as it is printed?
-use Rattle.std.proofs.Common.{◌≡◌, ◌<◌, ◌≤◌, ◌+◌, ◌-◌, ℕ, suc, List, [], ◌∷◌, ◌++◌, length, take, drop, get_or, refl, sym, ap, ◌∙◌, subst, Bool, true, false, arith, ◌==◌, ◌&&◌, ◌⊎◌, inl, inr, Ok, codes, decimal, append_assoc, append-nil, eqb-true, le-ltb, ne_eqb}
+use Rattle.std.proofs.Common.{◌≡◌, ◌<◌, ◌≤◌, ◌+◌, ◌-◌, ℕ, suc, List, [], ◌∷◌, ◌++◌, length, take, drop, get_or, refl, sym, ap, ◌∙◌, subst, Bool, true, false, arith, ◌==◌, ◌&&◌, ◌⊎◌, inl, inr, Ok, decimal, append_assoc, append-nil, eqb-true, le-ltb, ne_eqb}
 use Rattle.std.proofs.Math.IntN.{pos}
 use Rattle.std.specs.Int.RustNames.{unsigned_abs}
 use Rattle.std.specs.Char.{digit_value}
 use Rattle.std.specs.List.{list_all, prefix_len}
-use Rattle.std.specs.Str.Parse.{AllDigits, digits_value}
+use Rattle.std.specs.Str.Parse.{AllDigits}
 use Rattle.std.proofs.lemmas.Bool.Decides.{nat_tests}
 use Rattle.std.proofs.lemmas.Fmt.{decimal_is_IsNumeral_wide}
 use Rattle.std.proofs.lemmas.List.{length-append, take_all}
@@ -15,15 +15,15 @@ use Rattle.lhg_math.specs.Inverses.{quot-whole}
 use Rattle.lhg_math.specs.Number.{Number, ratio, whole, quot}
 use Rattle.lhg_math.specs.Tests.{by_bool}
 use Rattle.lhg_lex.specs.Digits.{all_digits, is_run, value_of}
-use Rattle.lhg_lex.specs.Literal.{is_number, is_mark, limit, number_of, fraction_value, whole_value}
+use Rattle.lhg_lex.specs.Literal.{is_number, is_mark, limit, number_of, fraction_value}
 use Rattle.lhg_lex.specs.Longest.{IsLongest}
 use Rattle.lhg_lex.specs.PlainToken.{number}
 use Rattle.lhg_lex.specs.Token.{number_said}
 use Rattle.lhg_lex.specs.Word.{is_digit}
-use Rattle.lhg_lex.proofs.Runs.{run_from_digits, digits_from_run, run_stops, is_parted-at, parts_at, is_number-at, is_number-run}
+use Rattle.lhg_lex.proofs.Runs.{run_from_digits, run_stops, is_parted-at, parts_at, is_number-at, is_number-run}
 use Rattle.lhg_lex.proofs.NumberLengths.{plain_longest, parted_longest}
 use Rattle.lhg_lex.proofs.TokenLawProofs.{token_laws}
-use Rattle.lhg_text.specs.RowText.{size_text, denominator_text}
+use Rattle.lhg_text.specs.RowText.{size_text}
 use Rattle.lhg_text.specs.Short.{IsShort}
 use Rattle.lhg_text.proofs.LineText.{is_inner, IsToken}
 use Rattle.lhg_text.proofs.TokenKinds.{breaks, break_stops, break_not_digit, break_not_mark, front_is, all_weaker}

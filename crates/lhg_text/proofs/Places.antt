@@ -1,18 +1,17 @@
 -- Which variables stand in the rows of a line, and at which places?
-use Rattle.std.proofs.Common.{◌≡◌, ◌<◌, ◌+◌, ℕ, zero, suc, List, [], ◌∷◌, ◌++◌, length, map, refl, sym, ap, ◌∙◌, subst, Bool, true, false, not, cond, ◌||◌, ◌&&◌, Option, Some, None, arith, append_assoc, zero-add, nat_lt, codes}
-use Rattle.std.specs.List.{list_any, position_or_len}
+use Rattle.std.proofs.Common.{◌≡◌, ◌+◌, ℕ, suc, List, [], ◌∷◌, ◌++◌, length, map, refl, sym, ap, ◌∙◌, subst, Bool, true, false, not, ◌&&◌, Some, arith, append_assoc, zero-add, nat_lt, codes}
+use Rattle.std.specs.List.{position_or_len}
 use Rattle.std.specs.Option.{option_map}
 use Rattle.std.specs.Str.{bytes_eq}
 use Rattle.std.proofs.lemmas.Bool.{or_parts}
 use Rattle.std.proofs.lemmas.Bool.Decides.{nat_tests}
 use Rattle.std.proofs.lemmas.List.{length-map, length-append}
 use Rattle.std.proofs.lemmas.Slice.Eq.{bytes_eq-Decides}
-use Rattle.lhg_math.specs.Tests.{by_bool}
 use Rattle.lhg_row.specs.Members.{AllOf}
 use Rattle.lhg_row.specs.MinusLaws.{all-append}
 use Rattle.lhg_plant.specs.Word.{IsName}
-use Rattle.lhg_read.specs.Names.{is_among, all_differ, differ_from}
-use Rattle.lhg_read.specs.Term.{place_of, variable_of, width}
+use Rattle.lhg_plant.specs.Differ.{is_among, all_differ, differ_from}
+use Rattle.lhg_read.specs.Term.{place_of, variable_of}
 use Rattle.lhg_read.specs.declared.forms.Form.{Form}
 use Rattle.lhg_read.specs.declared.forms.Form.TheVariants.{Plain, Flow, Jump}
 use Rattle.lhg_read.proofs.VariableSteps.{differ-append}
@@ -108,9 +107,10 @@ module _ (form : Form) (vars : List (List ℕ)) where
   placed_from primed shift f before (w ∷ behind) k is at differ =
       let split : all_differ (before ++ (w ∷ behind)) ≡ true = ap all_differ (sym is) ∙ differ in
       let place : place_of w vars ≡ Some (length before) = ap (place_of w) is ∙ place_at w before behind (not_before w before behind split) in
-      let size = length-append before (w ∷ []) in
-      (f w (length before) place ∙ ap (λ (i : ℕ). Some i) (sym at),
-        placed_from primed shift f (before ++ w ∷ []) behind (k + 1) (is ∙ sym (append_assoc before (w ∷ []) behind)) (omega arith) differ)
+      let size = length-append before (w ∷ []) in (
+        f w (length before) place ∙ ap (λ (i : ℕ). Some i) (sym at),
+        placed_from primed shift f (before ++ w ∷ []) behind (k + 1) (is ∙ sym (append_assoc before (w ∷ []) behind)) (omega arith) differ,
+      )
 
   old_placed : ((w : List ℕ) → variable_of form vars (axis_tokens (axis false w)) ≡ place_of w vars) → all_differ vars ≡ true → ArePlaced form vars 0 (map (axis false) vars)
   old_placed same differ = placed_from false 0 (λ w i h. same w ∙ h ∙ ap (λ (j : ℕ). Some j) (sym (zero-add i))) [] vars 0 refl refl differ

@@ -1,28 +1,34 @@
 -- What do the lines of a printed plant say?
-use Rattle.std.proofs.Common.{◌≡◌, ◌<◌, ◌≤◌, ℕ, suc, List, [], ◌∷◌, ◌++◌, length, map, refl, sym, ap, ◌∙◌, subst, Bool, true, false, not, ◌||◌, ◌&&◌, ◌==◌, Option, Some, None, arith, append-nil, codes, nat_le}
+use Rattle.std.proofs.Common.{◌≡◌, ◌<◌, ◌≤◌, ℕ, List, [], ◌∷◌, ◌++◌, length, map, refl, ap, subst, true, false, Some, arith, append-nil, codes, nat_le}
 use Rattle.std.specs.Option.{option_map}
 use Rattle.std.specs.Str.{bytes_eq}
 use Rattle.std.proofs.lemmas.Bool.Decides.{nat_tests}
 use Rattle.std.proofs.lemmas.Slice.Eq.{bytes_eq-Decides}
-use Rattle.lhg_math.specs.Tests.{by_bool}
+use Rattle.lhg_math.specs.Tests.{by_bool, Every}
 use Rattle.lhg_lex.specs.PlainToken.{PlainToken, word}
 use Rattle.lhg_lex.specs.Word.{is_word}
 use Rattle.lhg_row.specs.Members.{AllOf}
+use Rattle.lhg_row.specs.Constant.{varies}
 use Rattle.lhg_row.specs.Piece.{PlainPiece}
-use Rattle.lhg_plant.specs.Plant.{PlainLocation, PlainSwitch, PlainPlant}
+use Rattle.lhg_row.specs.Width.{AllWide}
+use Rattle.lhg_plant.specs.Plant.{PlainLocation}
 use Rattle.lhg_plant.specs.Word.{IsName, IsVariable}
 use Rattle.lhg_plant.specs.declared.plants.Side.{Side}
 use Rattle.lhg_plant.specs.declared.plants.Side.TheVariants.{Ctl, Env}
-use Rattle.lhg_read.specs.Names.{name_of, one_name, is_taken, variable_name, variable_names, proper_variables, vars_of, all_differ, most_variables, name_bytes}
-use Rattle.lhg_read.specs.Options.{consed}
-use Rattle.lhg_read.specs.PlantLine.{BlockLine, inv, flow, safe, WrittenSwitch, PlantLine, loc, block, switch, end, side_of, switch_of, line_of}
+use Rattle.lhg_read.specs.Names.{name_of, is_taken, variable_names, vars_of}
+use Rattle.lhg_plant.specs.Differ.{all_differ}
+use Rattle.lhg_plant.specs.Limits.{most_name_bytes, most_variables}
+use Rattle.lhg_plant.specs.Printable.{HasVariables}
+use Rattle.lhg_plant.specs.Proper.{IsLine, IsLocation}
+use Rattle.lhg_read.specs.PlantLine.{inv, flow, safe, WrittenSwitch, PlantLine, loc, block, switch, end, side_of, switch_of, line_of}
 use Rattle.lhg_read.specs.PlantText.{Block, block_lines}
-use Rattle.lhg_read.specs.Rows.{line_rows, rows_of}
+use Rattle.lhg_read.specs.Rows.{rows_of}
+use Rattle.lhg_read.specs.Term.{width}
 use Rattle.lhg_read.specs.declared.forms.Form.{Form}
 use Rattle.lhg_read.specs.declared.forms.Form.TheVariants.{Plain, Flow, Jump}
-use Rattle.lhg_text.specs.PlantText.{spaced, side_text, location_name, safe_line, location_lines, switch_line}
+use Rattle.lhg_text.specs.PlantText.{spaced, side_text, safe_line, location_lines}
 use Rattle.lhg_text.specs.RowText.{rows_text, jump_names}
-use Rattle.lhg_text.specs.Short.{AllShort}
+use Rattle.lhg_text.specs.Short.{AllShort, IsShortLocation}
 use Rattle.lhg_text.proofs.LineText.{Says, says_end, says_space, says_token}
 use Rattle.lhg_text.proofs.Places.{axes_of, names_of, axes_names, axes_named, axes_placed}
 use Rattle.lhg_text.proofs.RowReads.{IsRowOf}
@@ -36,7 +42,7 @@ pub record IsWord (w : List ℕ) : Type 0 where
   pub word : is_word w ≡ true
 
 -- words with one space between each two say themselves
-pub words_say : (ws : List (List ℕ)) (last : List ℕ) (tokens : List PlainToken) → AllOf IsWord ws → Says last tokens → Says (spaced (ws ++ last ∷ [])) (map (λ w. word w) ws ++ tokens)
+words_say : (ws : List (List ℕ)) (last : List ℕ) (tokens : List PlainToken) → AllOf IsWord ws → Says last tokens → Says (spaced (ws ++ last ∷ [])) (map (λ w. word w) ws ++ tokens)
 words_say [] last tokens h s = s
 words_say (w ∷ []) last tokens h s = says_token w (32 ∷ last) (word w) (word_token w (32 ∷ last) h.0.word refl) (says_space s)
 words_say (w ∷ v ∷ ws) last tokens h s =
@@ -49,11 +55,15 @@ word_says w h = subst (λ bytes. Says bytes (word w ∷ [])) (append-nil w) (say
 
 -- ---- rows
 
--- rows that a line may give, with numbers within the limit
+-- rows that a line may give, each with a coefficient that is not zero, with numbers within the limit
 pub record AreRows (form : Form) (vars : List (List ℕ)) (rows : PlainPiece) : Type 0 where
-  pub each : AllOf (IsRowOf form vars) rows
+  pub line : IsLine (width form vars) rows
+  pub vary : Every varies rows
   pub short : AllShort rows
-  pub few : length rows ≤ line_rows
+
+each_row : (form : Form) (vars : List (List ℕ)) (rows : PlainPiece) → AllWide (width form vars) rows → Every varies rows → AllOf (IsRowOf form vars) rows
+each_row form vars [] wide vary = tt
+each_row form vars (r ∷ rs) wide vary = (record { wide = wide.0; some = vary.0 }, each_row form vars rs wide.1 vary.1)
 
 -- the names of variables are words and differ
 pub record AreNames (vars : List (List ℕ)) : Type 0 where
@@ -70,7 +80,7 @@ rows_are_read : (form : Form) (vars : List (List ℕ)) (rows : PlainPiece) → A
 rows_are_read form vars rows names h = record {
   tokens = rows_tokens (axes_of form vars) rows;
   says = subst (λ ws. Says (rows_text ws rows) (rows_tokens (axes_of form vars) rows)) (axes_names form vars) (rows_say (axes_of form vars) rows (axes_named form vars names.names) h.short);
-  reads = rows_read form vars (axes_of form vars) (axes_placed form vars names.differ) rows h.each h.few;
+  reads = rows_read form vars (axes_of form vars) (axes_placed form vars names.differ) rows (each_row form vars rows h.line.wide h.vary) h.line.few;
 }
 
 -- ---- lines
@@ -83,7 +93,7 @@ pub record IsLineOf (vars : List (List ℕ)) (line : List ℕ) (value : PlantLin
   pub reads : line_of vars (first ∷ others) ≡ Some value
 
 name_read : (w : List ℕ) → IsName w → name_of (word w) ≡ Some w
-name_read w h = let f = h.fits in let e : nat_le (length w) name_bytes ≡ true = grind (arith, nat_tests) in rw e refl
+name_read w h = let f = h.fits in let e : nat_le (length w) most_name_bytes ≡ true = grind (arith, nat_tests) in rw e refl
 
 loc_line : (vars : List (List ℕ)) (name : List ℕ) → IsName name → IsLineOf vars (spaced (codes "loc" ∷ name ∷ [])) (loc name)
 unfolding line_of
@@ -180,23 +190,19 @@ lines-append vars (x ∷ xs) (u ∷ us) ys vs h k = (h.0, lines-append vars xs u
 abbrev pub block_of : PlainLocation → Block
 block_of l = record { name = l.name; lines = inv l.inv ∷ flow l.flow ∷ map (λ rows. safe rows) l.safe }
 
--- what printing asks of a location
-pub record IsLocationOver (vars : List (List ℕ)) (l : PlainLocation) : Type 0 where
-  pub name : IsName l.name
-  pub inv : AreRows Plain vars l.inv
-  pub flow : AreRows Flow vars l.flow
-  pub safe : AllOf (AreRows Plain vars) l.safe
-
-safe_lines : (vars : List (List ℕ)) (lists : List PlainPiece) → AreNames vars → AllOf (AreRows Plain vars) lists → AreLinesOf vars (map (safe_line vars) lists) (map (λ line. block line) (map (λ rows. safe rows) lists))
-safe_lines vars [] names h = tt
-safe_lines vars (rows ∷ lists) names h = (safe_is vars rows (rows_are_read Plain vars rows names h.0), safe_lines vars lists names h.1)
+safe_lines : (vars : List (List ℕ)) (lists : List PlainPiece) → AreNames vars → AllOf (IsLine (length vars)) lists → AllOf (λ rows. Every varies rows) lists → AllOf AllShort lists
+    → AreLinesOf vars (map (safe_line vars) lists) (map (λ line. block line) (map (λ rows. safe rows) lists))
+safe_lines vars [] names h v s = tt
+safe_lines vars (rows ∷ lists) names h v s = (safe_is vars rows (rows_are_read Plain vars rows names (record { line = h.0; vary = v.0; short = s.0 })), safe_lines vars lists names h.1 v.1 s.1)
 
 -- the lines of a location are those of its block
-pub location_is : (vars : List (List ℕ)) (l : PlainLocation) → AreNames vars → IsLocationOver vars l → AreLinesOf vars (location_lines vars l) (block_lines (block_of l))
-location_is vars l names h = (
+pub location_is : (vars : List (List ℕ)) (l : PlainLocation) → AreNames vars → IsLocation (length vars) l → HasVariables l → IsShortLocation l → AreLinesOf vars (location_lines vars l) (block_lines (block_of l))
+location_is vars l names h v s = (
   loc_line vars l.name h.name,
-  (inv_line vars l.inv (rows_are_read Plain vars l.inv names h.inv),
-    (flow_line vars l.flow (rows_are_read Flow vars l.flow names h.flow), safe_lines vars l.safe names h.safe)),
+  (
+    inv_line vars l.inv (rows_are_read Plain vars l.inv names (record { line = h.inv; vary = v.inv; short = s.inv })),
+    (flow_line vars l.flow (rows_are_read Flow vars l.flow names (record { line = h.flow; vary = v.flow; short = s.flow })), safe_lines vars l.safe names h.safe v.safe s.safe),
+  ),
 )
 
 -- ---- the line of the variables
@@ -219,20 +225,10 @@ variables_read (w ∷ vars) h =
     let more = variables_read vars h.1 in
     rw (n, t, more) refl
 
--- the variables of a plant
-pub record AreVariables (vars : List (List ℕ)) : Type 0 where
-  pub variables : AllOf IsVariable vars
-  pub some : 0 < length vars
-  pub few : length vars ≤ most_variables
-  pub differ : all_differ vars ≡ true
-
--- their line is read as these variables
-pub vars_read : (vars : List (List ℕ)) → AreVariables vars → vars_of (word (codes "vars") ∷ map (λ w. word w) vars) ≡ Some vars
-vars_read vars h =
-    let names = variables_read vars h.variables in
-    let some = h.some in
-    let few = h.few in
+-- the line of the variables is read as these
+pub vars_read : (vars : List (List ℕ)) → AllOf IsVariable vars → 0 < length vars → length vars ≤ most_variables → all_differ vars ≡ true → vars_of (word (codes "vars") ∷ map (λ w. word w) vars) ≡ Some vars
+vars_read vars h some few differ =
+    let names = variables_read vars h in
     let one : nat_le 1 (length vars) ≡ true = grind (arith, nat_tests) in
     let most : nat_le (length vars) most_variables ≡ true = grind (arith, nat_tests) in
-    let differ = h.differ in
     rw names (rw (one, most, differ) refl)

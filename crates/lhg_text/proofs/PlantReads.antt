@@ -1,36 +1,39 @@
 -- The text of a plant is a plant of the grammar, and its value is that plant.
-use Rattle.std.proofs.Common.{◌≡◌, ◌<◌, ◌≤◌, ℕ, zero, suc, List, [], ◌∷◌, ◌++◌, length, take, drop, get_or, map, refl, sym, ap, ◌∙◌, subst, Bool, true, false, not, ◌||◌, ◌&&◌, ◌==◌, Option, Some, None, Ok, Result, arith, codes, append_assoc}
+use Rattle.std.proofs.Common.{◌≡◌, ◌<◌, ◌≤◌, ℕ, zero, suc, List, [], ◌∷◌, ◌++◌, length, take, drop, get_or, map, refl, sym, ap, ◌∙◌, subst, true, false, ◌==◌, Option, Some, Ok, arith, codes, append_assoc}
 use Rattle.std.specs.Prelude.{slice_get}
 use Rattle.std.specs.List.{list_all, list_any, flat_map}
-use Rattle.std.specs.Option.{option_map, option_and_then}
 use Rattle.std.proofs.lemmas.Bool.{and_parts}
 use Rattle.std.proofs.lemmas.Bool.Decides.{nat_tests}
 use Rattle.std.proofs.lemmas.List.{length-map, length-take-le, take-append-drop}
 use Rattle.std.proofs.Common.{drop-cons}
 use Rattle.lhg_math.specs.Number.{unit}
-use Rattle.lhg_math.specs.Tests.{by_bool}
+use Rattle.lhg_math.specs.Tests.{Every}
 use Rattle.lhg_lex.specs.Lines.{lines_of}
-use Rattle.lhg_lex.specs.LineTokens.{Spot, Fault, tokens_of}
+use Rattle.lhg_lex.specs.LineTokens.{Spot, tokens_of}
 use Rattle.lhg_lex.specs.Longest.{longest}
 use Rattle.lhg_lex.specs.PlainToken.{PlainToken, word, number}
 use Rattle.lhg_lex.proofs.TextLawProofs.{text_laws}
+use Rattle.lhg_row.specs.Constant.{varies}
 use Rattle.lhg_row.specs.Members.{AllOf}
 use Rattle.lhg_row.specs.Piece.{PlainPiece}
 use Rattle.lhg_plant.specs.Plant.{PlainLocation, PlainSwitch, PlainPlant}
 use Rattle.lhg_plant.specs.Word.{IsName, IsVariable}
-use Rattle.lhg_read.specs.Names.{vars_of, all_differ}
-use Rattle.lhg_read.specs.Options.{joined}
-use Rattle.lhg_read.specs.PlantLine.{PlantLine, WrittenSwitch, BlockLine, safe, switch, end, line_of}
-use Rattle.lhg_read.specs.PlantText.{Block, IsBlock, block_lines, invs_of, flows_of, safes_of, location_of, switch_at, said_in, IsHead, IsPlant, IsPlantText, most_safe_lines, most_locations, most_switches}
+use Rattle.lhg_plant.specs.Differ.{all_differ}
+use Rattle.lhg_plant.specs.Limits.{most_safe_lines}
+use Rattle.lhg_plant.specs.Printable.{HasVariables, IsPrintable}
+use Rattle.lhg_plant.specs.Proper.{IsLocation, IsSwitch, IsProper}
+use Rattle.lhg_read.specs.Names.{vars_of}
+use Rattle.lhg_read.specs.PlantLine.{PlantLine, WrittenSwitch, safe, switch, end, line_of}
+use Rattle.lhg_read.specs.PlantText.{Block, IsBlock, block_lines, invs_of, flows_of, safes_of, location_of, switch_at, said_in, IsHead, IsPlant, IsPlantText}
 use Rattle.lhg_read.specs.PlantText as read
 use Rattle.lhg_read.specs.Term.{place_of}
 use Rattle.lhg_read.specs.TokenText.{token_line, token_lines}
-use Rattle.lhg_read.specs.declared.forms.Form.TheVariants.{Jump}
+use Rattle.lhg_text.specs.Short.{AllShort, IsShortLocation, IsShortPlant}
 use Rattle.lhg_text.specs.PlantText.{line, spaced, location_name, location_lines, switch_line, plant_lines, plant_text}
 use Rattle.lhg_text.proofs.LineText.{is_inner, Says, says_space, says_token, line_says}
 use Rattle.lhg_text.proofs.Places.{place_at, not_before}
 use Rattle.lhg_text.proofs.TokenKinds.{word_token}
-use Rattle.lhg_text.proofs.PlantLines.{IsWord, word_says, AreNames, AreRows, AreVariables, IsLineOf, AreLinesOf, lines-append, IsLocationOver, block_of, location_is, switch_is, end_line, vars_read}
+use Rattle.lhg_text.proofs.PlantLines.{IsWord, word_says, AreNames, AreLinesOf, lines-append, block_of, location_is, switch_is, end_line, vars_read}
 
 -- ---- the lines of the text
 
@@ -88,21 +91,14 @@ lines_read vars (l ∷ lines) (v ∷ values) h =
 
 -- ---- the locations and the switches
 
-locations_are : (vars : List (List ℕ)) (locs : List PlainLocation) → AreNames vars → AllOf (IsLocationOver vars) locs → AreLinesOf vars (flat_map (location_lines vars) locs) (flat_map block_lines (map block_of locs))
-locations_are vars [] names h = tt
-locations_are vars (l ∷ locs) names h =
-    lines-append vars (location_lines vars l) (block_lines (block_of l)) (flat_map (location_lines vars) locs) (flat_map block_lines (map block_of locs)) (location_is vars l names h.0) (locations_are vars locs names h.1)
+locations_are : (vars : List (List ℕ)) (locs : List PlainLocation) → AreNames vars → AllOf (IsLocation (length vars)) locs → AllOf HasVariables locs → AllOf IsShortLocation locs → AreLinesOf vars (flat_map (location_lines vars) locs) (flat_map block_lines (map block_of locs))
+locations_are vars [] names h v s = tt
+locations_are vars (l ∷ locs) names h v s =
+    lines-append vars (location_lines vars l) (block_lines (block_of l)) (flat_map (location_lines vars) locs) (flat_map block_lines (map block_of locs)) (location_is vars l names h.0 v.0 s.0) (locations_are vars locs names h.1 v.1 s.1)
 
 -- a switch as it is written: its locations by their names
 abbrev written : List PlainLocation → PlainSwitch → WrittenSwitch
 written locs s = record { name = s.name; side = s.side; from = location_name (slice_get locs s.from); to = location_name (slice_get locs s.to); jump = s.jump }
-
--- what printing asks of a switch
-pub record IsSwitchOver (vars : List (List ℕ)) (locs : List PlainLocation) (s : PlainSwitch) : Type 0 where
-  pub name : IsName s.name
-  pub from : s.from < length locs
-  pub to : s.to < length locs
-  pub jump : AreRows Jump vars s.jump
 
 -- a location is found by its name
 name_of_place : (locs : List PlainLocation) (i : ℕ) → i < length locs → location_name (slice_get locs i) ≡ get_or (map (λ l. l.name) locs) i []
@@ -110,10 +106,10 @@ name_of_place [] i h = absurd (omega arith)
 name_of_place (l ∷ locs) zero h = refl
 name_of_place (l ∷ locs) (suc i) h = name_of_place locs i (omega arith)
 
-is_named : (vars : List (List ℕ)) (locs : List PlainLocation) (i : ℕ) → i < length locs → AllOf (IsLocationOver vars) locs → IsName (location_name (slice_get locs i))
-is_named vars [] i h k = absurd (omega arith)
-is_named vars (l ∷ locs) zero h k = k.0.name
-is_named vars (l ∷ locs) (suc i) h k = is_named vars locs i (omega arith) k.1
+is_named : (n : ℕ) (locs : List PlainLocation) (i : ℕ) → i < length locs → AllOf (IsLocation n) locs → IsName (location_name (slice_get locs i))
+is_named n [] i h k = absurd (omega arith)
+is_named n (l ∷ locs) zero h k = k.0.name
+is_named n (l ∷ locs) (suc i) h k = is_named n locs i (omega arith) k.1
 
 place_of_name : (names : List (List ℕ)) (i : ℕ) → i < length names → all_differ names ≡ true → place_of (get_or names i []) names ≡ Some i
 place_of_name names i h differ =
@@ -127,40 +123,29 @@ place_back locs i h differ =
     let size = length-map locs (λ l. l.name) in
     ap (λ w. place_of w (map (λ l. l.name) locs)) (name_of_place locs i h) ∙ place_of_name (map (λ l. l.name) locs) i (omega arith) differ
 
-switch_back : (vars : List (List ℕ)) (locs : List PlainLocation) (s : PlainSwitch) → all_differ (map (λ l. l.name) locs) ≡ true → IsSwitchOver vars locs s → switch_at (map (λ l. l.name) locs) (written locs s) ≡ Some s
-switch_back vars locs s differ h =
+switch_back : (n : ℕ) (locs : List PlainLocation) (s : PlainSwitch) → all_differ (map (λ l. l.name) locs) ≡ true → IsSwitch n (length locs) s → switch_at (map (λ l. l.name) locs) (written locs s) ≡ Some s
+switch_back n locs s differ h =
     let from = place_back locs s.from h.from differ in
     let to = place_back locs s.to h.to differ in
     rw (from, to) refl
 
--- what printing asks of a plant
-pub record IsPrintedPlant (a : PlainPlant) : Type 0 where
-  pub vars : AreVariables a.vars
-  pub locs : AllOf (IsLocationOver a.vars) a.locs
-  pub some_locs : 0 < length a.locs
-  pub few_locs : length a.locs ≤ most_locations
-  pub locs_differ : all_differ (map (λ l. l.name) a.locs) ≡ true
-  pub few_safe : AllOf (λ l. length l.safe ≤ most_safe_lines) a.locs
-  pub switches : AllOf (IsSwitchOver a.vars a.locs) a.switches
-  pub few_switches : length a.switches ≤ most_switches
-  pub switches_differ : all_differ (map (λ s. s.name) a.switches) ≡ true
-
-switches_back : (vars : List (List ℕ)) (locs : List PlainLocation) (switches : List PlainSwitch) → all_differ (map (λ l. l.name) locs) ≡ true → AllOf (IsSwitchOver vars locs) switches
+switches_back : (n : ℕ) (locs : List PlainLocation) (switches : List PlainSwitch) → all_differ (map (λ l. l.name) locs) ≡ true → AllOf (IsSwitch n (length locs)) switches
     → map (switch_at (map (λ l. l.name) locs)) (map (written locs) switches) ≡ map (λ s. Some s) switches
-switches_back vars locs [] differ h = refl
-switches_back vars locs (s ∷ switches) differ h =
-    let first = switch_back vars locs s differ h.0 in
-    let more = switches_back vars locs switches differ h.1 in
+switches_back n locs [] differ h = refl
+switches_back n locs (s ∷ switches) differ h =
+    let first = switch_back n locs s differ h.0 in
+    let more = switches_back n locs switches differ h.1 in
     ap (λ o. o ∷ map (switch_at (map (λ l. l.name) locs)) (map (written locs) switches)) first ∙ ap (λ os. Some s ∷ os) more
 
 -- the lines of the switches and the end
-switches_are : (a : PlainPlant) (switches : List PlainSwitch) → AreNames a.vars → AllOf (IsLocationOver a.vars) a.locs → AllOf (IsSwitchOver a.vars a.locs) switches
-    → AreLinesOf a.vars (map (switch_line a) switches ++ codes "end" ∷ []) (map (λ s. switch s) (map (written a.locs) switches) ++ end ∷ [])
-switches_are a [] names locs h = (end_line a.vars, tt)
-switches_are a (s ∷ switches) names locs h = (
-  switch_is a.vars (written a.locs s) names h.0.name (is_named a.vars a.locs s.from h.0.from locs) (is_named a.vars a.locs s.to h.0.to locs) h.0.jump,
-  switches_are a switches names locs h.1,
-)
+switches_are : (a : PlainPlant) (switches : List PlainSwitch) → AreNames a.vars → AllOf (IsLocation (length a.vars)) a.locs → AllOf (IsSwitch (length a.vars) (length a.locs)) switches → AllOf (λ s. Every varies s.jump) switches → AllOf (λ s. AllShort s.jump) switches
+    → AreLinesOf a.vars (map (switch_line a.vars a.locs) switches ++ codes "end" ∷ []) (map (λ s. switch s) (map (written a.locs) switches) ++ end ∷ [])
+switches_are a [] names locs h v t = (end_line a.vars, tt)
+switches_are a (s ∷ switches) names locs h v t =
+    let n = length a.vars in (
+      switch_is a.vars (written a.locs s) names h.0.name (is_named n a.locs s.from h.0.from locs) (is_named n a.locs s.to h.0.to locs) (record { line = h.0.jump; vary = v.0; short = t.0 }),
+      switches_are a switches names locs h.1 v.1 t.1,
+    )
 
 -- ---- the blocks
 
@@ -187,9 +172,9 @@ block_is l h =
 location_back : (n : ℕ) (l : PlainLocation) → location_of n (block_of l) ≡ l
 location_back n l = let s = safes_of_safes l.safe in ap (λ lists. record l { safe = lists }) s
 
-blocks_are : (locs : List PlainLocation) → AllOf (λ l. length l.safe ≤ most_safe_lines) locs → AllOf IsBlock (map block_of locs)
-blocks_are [] h = tt
-blocks_are (l ∷ locs) h = (block_is l h.0, blocks_are locs h.1)
+blocks_are : (n : ℕ) (locs : List PlainLocation) → AllOf (IsLocation n) locs → AllOf IsBlock (map block_of locs)
+blocks_are n [] h = tt
+blocks_are n (l ∷ locs) h = (block_is l h.0.few_safe, blocks_are n locs h.1)
 
 locations_back : (n : ℕ) (locs : List PlainLocation) → locs ≡ map (location_of n) (map block_of locs)
 locations_back n [] = refl
@@ -216,10 +201,6 @@ head_is : IsHead head_spots
 unfolding head_spots
 head_is = record { from = 0; to = 3; at = 4; is = refl }
 
-all_names : (vars : List (List ℕ)) → AllOf IsVariable vars → AllOf IsName vars
-all_names [] h = tt
-all_names (w ∷ vars) h = (h.0.name, all_names vars h.1)
-
 vars_words : (ws : List (List ℕ)) → AllOf IsVariable ws → AllOf IsWord ws
 vars_words [] h = tt
 vars_words (w ∷ ws) h = (record { word = h.0.name.word }, vars_words ws h.1)
@@ -230,7 +211,7 @@ vars_say w (v ∷ ws) h k =
     let behind = 32 ∷ spaced (v ∷ ws) in
     says_token w behind (word w) (word_token w behind h.word refl) (says_space (vars_say v ws k.0 k.1))
 
-module _ (a : PlainPlant) (h : IsPrintedPlant a) where
+module _ (a : PlainPlant) (proper : IsProper a) (printable : IsPrintable a) (short : IsShortPlant a) where
   blocks : List Block
   blocks = map block_of a.locs
 
@@ -238,21 +219,21 @@ module _ (a : PlainPlant) (h : IsPrintedPlant a) where
   switches = map (written a.locs) a.switches
 
   names : AreNames a.vars
-  names = record { names = all_names a.vars h.vars.variables; differ = h.vars.differ }
+  names = record { names = proper.vars; differ = proper.vars_differ }
 
   -- the lines behind that of the variables
   rest : List (List ℕ)
-  rest = flat_map (location_lines a.vars) a.locs ++ (map (switch_line a) a.switches ++ codes "end" ∷ [])
+  rest = flat_map (location_lines a.vars) a.locs ++ (map (switch_line a.vars a.locs) a.switches ++ codes "end" ∷ [])
 
   rest_tokens : AreTokens a.vars rest (read.plant_lines blocks switches)
   unfolding blocks switches rest
   rest_tokens =
       lines_read a.vars rest (read.plant_lines blocks switches)
-      (lines-append a.vars (flat_map (location_lines a.vars) a.locs) (flat_map block_lines blocks) (map (switch_line a) a.switches ++ codes "end" ∷ []) (map (λ s. switch s) switches ++ end ∷ [])
-        (locations_are a.vars a.locs names h.locs) (switches_are a a.switches names h.locs h.switches))
+      (lines-append a.vars (flat_map (location_lines a.vars) a.locs) (flat_map block_lines blocks) (map (switch_line a.vars a.locs) a.switches ++ codes "end" ∷ []) (map (λ s. switch s) switches ++ end ∷ [])
+      (locations_are a.vars a.locs names proper.locs printable.locs short.locs) (switches_are a a.switches names proper.locs proper.switches printable.jumps short.switches))
 
   vars_tokens : Says (spaced (codes "vars" ∷ a.vars)) (word (codes "vars") ∷ map (λ w. word w) a.vars)
-  vars_tokens = vars_say (codes "vars") a.vars (record { word = refl }) (vars_words a.vars h.vars.variables)
+  vars_tokens = vars_say (codes "vars") a.vars (record { word = refl }) (vars_words a.vars printable.vars)
 
   plant_is : IsPlant (head_spots ∷ vars_tokens.spots 0 ∷ rest_tokens.tokens) a
   unfolding blocks switches
@@ -268,16 +249,16 @@ module _ (a : PlainPlant) (h : IsPrintedPlant a) where
         switches = switches;
         lines_are = refl;
         head_is = head_is;
-        vars_are = ap vars_of (vars_tokens.says 0) ∙ vars_read a.vars h.vars;
+        vars_are = ap vars_of (vars_tokens.says 0) ∙ vars_read a.vars printable.vars proper.some_vars proper.few_vars proper.vars_differ;
         rest_are = rest_tokens.say;
-        each_block = blocks_are a.locs h.few_safe;
+        each_block = blocks_are (length a.vars) a.locs proper.locs;
         locs_are = locations_back (length a.vars) a.locs;
-        some_locs = rw size h.some_locs;
-        few_locs = rw size h.few_locs;
-        locs_differ = rw names h.locs_differ;
-        switches_are = rw names (switches_back a.vars a.locs a.switches h.locs_differ h.switches);
-        few_switches = rw count h.few_switches;
-        switches_differ = ap all_differ (switch_names a.locs a.switches) ∙ h.switches_differ;
+        some_locs = rw size proper.some_locs;
+        few_locs = rw size proper.few_locs;
+        locs_differ = rw names proper.locs_differ;
+        switches_are = rw names (switches_back (length a.vars) a.locs a.switches proper.locs_differ proper.switches);
+        few_switches = rw count proper.few_switches;
+        switches_differ = ap all_differ (switch_names a.locs a.switches) ∙ proper.switches_differ;
       }
 
   all_lines : token_lines (plant_lines a) ≡ Some (head_spots ∷ vars_tokens.spots 0 ∷ rest_tokens.tokens)

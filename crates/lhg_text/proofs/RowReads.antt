@@ -1,5 +1,5 @@
 -- Which row do the tokens of a printed row give?
-use Rattle.std.proofs.Common.{◌≡◌, ◌<◌, ◌≤◌, ◌+◌, ◌==◌, ℕ, suc, List, [], ◌∷◌, ◌++◌, length, map, refl, sym, ap, ◌∙◌, Bool, true, false, not, cond, if◌then◌else◌, ◌&&◌, Option, Some, arith, append_assoc, append-nil, ne_eqb, nat_le, codes}
+use Rattle.std.proofs.Common.{◌≡◌, ◌<◌, ◌≤◌, ◌+◌, ◌==◌, ℕ, suc, List, [], ◌∷◌, ◌++◌, length, map, refl, sym, ap, ◌∙◌, Bool, true, false, not, if◌then◌else◌, ◌&&◌, Some, arith, append_assoc, append-nil, ne_eqb, nat_le, codes}
 use Rattle.std.specs.Prelude.{count_by}
 use Rattle.std.specs.List.{list_all, list_any, range_with_len}
 use Rattle.std.proofs.lemmas.Bool.{eqb-true}
@@ -10,17 +10,15 @@ use Rattle.lhg_math.specs.Number.{Number, neg, lt, nought}
 use Rattle.lhg_math.specs.NumberOrder.{lt_irrefl, lt-nought_neg}
 use Rattle.lhg_math.specs.NumberRing.{neg_neg, neg_nought}
 use Rattle.lhg_math.specs.Signs.{is_nought, lead}
-use Rattle.lhg_math.specs.SignLaws.{nought_is, is_nought-nought}
+use Rattle.lhg_math.specs.SignLaws.{nought_is}
 use Rattle.lhg_math.specs.Tests.{by_bool}
-use Rattle.lhg_lex.specs.PlainToken.{PlainToken, word, number, sign}
+use Rattle.lhg_lex.specs.PlainToken.{PlainToken}
 use Rattle.lhg_row.specs.Constant.{varies}
-use Rattle.lhg_row.specs.Piece.{PlainPiece}
 use Rattle.lhg_row.specs.Row.{PlainRow}
-use Rattle.lhg_read.specs.Cut.{Cut, cut}
+use Rattle.lhg_read.specs.Cut.{cut}
 use Rattle.lhg_read.specs.Pair.{is_at, is_alone, factor_in, is_proper, row_of, rows_by, opposite_row, pair_rows, pair_of}
-use Rattle.lhg_read.specs.Rows.{is_jump, chain_of, constraint_of}
+use Rattle.lhg_read.specs.Rows.{is_jump, constraint_of}
 use Rattle.lhg_read.specs.Signs.{is_word, is_one_word, is_operator, operator_of}
-use Rattle.lhg_read.specs.Sum.{opposite}
 use Rattle.lhg_read.specs.Term.{width}
 use Rattle.lhg_read.specs.declared.forms.Form.{Form}
 use Rattle.lhg_read.specs.declared.operators.Operator.{Operator}
@@ -32,7 +30,7 @@ use Rattle.lhg_text.specs.RowText.{turned, leads_negative}
 use Rattle.lhg_text.proofs.Cutting.{all_fail, behind_part, behind_mark, cut-part, cut-mark, cut-all}
 use Rattle.lhg_text.proofs.RowTerms.{is_nought-turned}
 use Rattle.lhg_text.proofs.RowTokens.{Axis, terms_tokens, operator_token, number_tokens, row_tokens_by, row_tokens}
-use Rattle.lhg_text.proofs.SumReads.{SparesTerms, SparesSums, terms_spared, number_spared, terms_at, ArePlaced, terms_sum, number_sum}
+use Rattle.lhg_text.proofs.SumReads.{SparesSums, terms_spared, number_spared, terms_at, ArePlaced, terms_sum, number_sum}
 
 -- ---- the coefficients that the terms give
 
@@ -83,14 +81,14 @@ coefs_back before k (c ∷ cs) z h =
     (λ e. let skipped : with_number k (c ∷ cs) z ≡ with_number (k + 1) cs z = rw e refl in
     ap (λ ts. coefs_of (before ++ ts) k n) skipped
     ∙ cons_eq
-      (factor_past (is_at k) before (with_number (k + 1) cs z) (h k (omega arith)) ∙ factor_none k (k + 1) cs z (omega arith) ∙ sym (nought_is c e))
-      (coefs_back before (k + 1) cs z (λ i low. h i (omega arith))))
+    (factor_past (is_at k) before (with_number (k + 1) cs z) (h k (omega arith)) ∙ factor_none k (k + 1) cs z (omega arith) ∙ sym (nought_is c e))
+    (coefs_back before (k + 1) cs z (λ i low. h i (omega arith))))
     (λ e. let taken : with_number k (c ∷ cs) z ≡ Times c k ∷ with_number (k + 1) cs z = rw e refl in
     ap (λ ts. coefs_of (before ++ ts) k n) taken
     ∙ cons_eq
-      (factor_past (is_at k) before (Times c k ∷ with_number (k + 1) cs z) (h k (omega arith)) ∙ (let s = same_eq k in rw s refl))
-      (ap (λ ts. coefs_of ts (k + 1) (length cs)) (sym (append_assoc before (Times c k ∷ []) (with_number (k + 1) cs z)))
-      ∙ coefs_back (before ++ Times c k ∷ []) (k + 1) cs z (spared_more before c k h)))
+    (factor_past (is_at k) before (Times c k ∷ with_number (k + 1) cs z) (h k (omega arith)) ∙ (let s = same_eq k in rw s refl))
+    (ap (λ ts. coefs_of ts (k + 1) (length cs)) (sym (append_assoc before (Times c k ∷ []) (with_number (k + 1) cs z)))
+    ∙ coefs_back (before ++ Times c k ∷ []) (k + 1) cs z (spared_more before c k h)))
 
 -- ---- the terms are proper
 

@@ -1,5 +1,5 @@
 -- The terms of a row from the place of its first coefficient that is not zero.
-use Rattle.std.proofs.Common.{◌≡◌, ◌<◌, ◌≤◌, ◌+◌, ◌++◌, ◌∷◌, [], ℕ, zero, suc, List, length, map, drop, get_or, refl, sym, ap, ◌∙◌, subst, arith, add-one, drop-cons, codes}
+use Rattle.std.proofs.Common.{◌≡◌, ◌<◌, ◌≤◌, ◌+◌, ◌++◌, ◌∷◌, [], ℕ, zero, suc, List, length, map, drop, get_or, refl, sym, ap, ◌∙◌, arith, add-one, drop-cons, codes}
 use Rattle.std.proofs.Common.{true, false, not, Bool, cond, Some, None, ◌&&◌}
 use Rattle.std.specs.List.{position_or_len, position}
 use Rattle.std.proofs.lemmas.Bool.Decides.{nat_tests}
@@ -10,15 +10,10 @@ use Rattle.lhg_math.specs.NumberOrder.{lt-neg, lt-nought_neg}
 use Rattle.lhg_math.specs.NumberRing.{neg_nought}
 use Rattle.lhg_math.specs.Signs.{is_nought, lead}
 use Rattle.lhg_math.specs.Tests.{by_bool}
-use Rattle.lhg_row.specs.Members.{AllOf}
 use Rattle.lhg_row.proofs.Steps.{drop_cons}
 use Rattle.lhg_text.specs.RowText.{terms_from, terms_text, next_term, next_terms, term_text, turned, jump_names}
 
 -- ---- lists from a place on
-
--- what holds of a member and of all behind it holds of all from it on
-pub all_from : {A : Type 0} (P : A → Type 0) (xs : List A) (i : ℕ) (x : A) → i < length xs → x ≡ get_or xs i x → P x → AllOf P (drop (i + 1) xs) → AllOf P (drop i xs)
-all_from P xs i x there is h k = subst (AllOf P) (sym (drop_cons xs i x is there)) (h, k)
 
 -- the name at a place, and those behind it
 name_from : (vs : List (List ℕ)) (i : ℕ) → i < length vs → drop i vs ≡ get_or vs i [] ∷ drop (i + 1) vs

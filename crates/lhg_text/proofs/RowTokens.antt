@@ -12,7 +12,7 @@ use Rattle.lhg_lex.specs.Literal.{limit}
 use Rattle.lhg_row.specs.Members.{AllOf}
 use Rattle.lhg_row.specs.Piece.{PlainPiece}
 use Rattle.lhg_row.specs.Row.{PlainRow}
-use Rattle.lhg_text.specs.RowText.{size_text, number_text, term_text, next_term, next_terms, terms_text, operator_text, turned, leads_negative, row_text, row_text_by, next_rows, rows_text}
+use Rattle.lhg_text.specs.RowText.{size_text, number_text, term_text, next_terms, terms_text, operator_text, turned, leads_negative, row_text, row_text_by, next_rows, rows_text}
 use Rattle.lhg_text.specs.Short.{IsShort, IsShortRow}
 use Rattle.lhg_text.proofs.LineText.{Says, says_end, says_space, says_token}
 use Rattle.lhg_text.proofs.NumberTokens.{magnitude, size_token}
@@ -24,7 +24,7 @@ pub record Follows (bytes : List ℕ) (tokens : List PlainToken) : Type 0 where
   pub stops : breaks bytes ≡ true
 
 -- equal bytes say the same
-pub says_as : {xs ys : List ℕ} {tokens : List PlainToken} → ys ≡ xs → Says xs tokens → Says ys tokens
+says_as : {xs ys : List ℕ} {tokens : List PlainToken} → ys ≡ xs → Says xs tokens → Says ys tokens
 says_as {xs} {ys} {tokens} e s = subst (λ bytes. Says bytes tokens) (sym e) s
 
 -- ---- variables
@@ -75,8 +75,8 @@ term_says c a rest tokens short named f =
     by_bool ((unsigned_abs c.top == 1) && (c.bottom == 1))
     (λ e. rw e (axis_says a rest tokens named f))
     (λ e. rw e (says_as (factor_text (size_text c) (axis_text a) rest)
-      (says_token (size_text c) (42 ∷ (axis_text a ++ rest)) (number (magnitude c)) (size_token c (42 ∷ (axis_text a ++ rest)) short refl)
-        (says_token (42 ∷ []) (axis_text a ++ rest) (sign 42) (sign_token 42 (axis_text a ++ rest) refl refl) (axis_says a rest tokens named f)))))
+    (says_token (size_text c) (42 ∷ (axis_text a ++ rest)) (number (magnitude c)) (size_token c (42 ∷ (axis_text a ++ rest)) short refl)
+    (says_token (42 ∷ []) (axis_text a ++ rest) (sign 42) (sign_token 42 (axis_text a ++ rest) refl refl) (axis_says a rest tokens named f)))))
 
 -- a sign and a term behind it
 signed_says : (s : ℕ) (c : Number) (a : Axis) (rest : List ℕ) (tokens : List PlainToken) → is_sign_byte s ≡ true → is_pair s 32 ≡ false → IsShort c → IsNamed a → Follows rest tokens
@@ -109,7 +109,7 @@ next_says (a ∷ axes) (c ∷ cs) rest tokens named short f =
     by_bool (is_nought c)
     (λ e. rw e more)
     (λ e. rw e (follows_as (next_grouped (if lt c nought then codes " - " else codes " + ") (term_text c (axis_text a)) (next_terms (map axis_text axes) cs) rest) (tokens_grouped (sign (if lt c nought then 45 else 43)) (term_tokens c a) (next_tokens axes cs) tokens)
-      (next_by (lt c nought) c a (next_terms (map axis_text axes) cs ++ rest) (next_tokens axes cs ++ tokens) short.0 named.0 more)))
+    (next_by (lt c nought) c a (next_terms (map axis_text axes) cs ++ rest) (next_tokens axes cs ++ tokens) short.0 named.0 more)))
 
 -- the terms
 terms_say : (axes : List Axis) (cs : List Number) (rest : List ℕ) (tokens : List PlainToken) → AllOf IsNamed axes → AllOf IsShort cs → Follows rest tokens
@@ -120,7 +120,7 @@ terms_say (a ∷ axes) (c ∷ cs) rest tokens named short f =
     by_bool (is_nought c)
     (λ e. rw e (terms_say axes cs rest tokens named.1 short.1 f))
     (λ e. rw (e, append_assoc (term_text c (axis_text a)) (next_terms (map axis_text axes) cs) rest, append_assoc (term_tokens c a) (next_tokens axes cs) tokens)
-      (term_says c a (next_terms (map axis_text axes) cs ++ rest) (next_tokens axes cs ++ tokens) short.0 named.0 (next_says axes cs rest tokens named.1 short.1 f)))
+    (term_says c a (next_terms (map axis_text axes) cs ++ rest) (next_tokens axes cs ++ tokens) short.0 named.0 (next_says axes cs rest tokens named.1 short.1 f)))
 
 -- ---- rows
 
@@ -171,10 +171,12 @@ row_tokens_grouped t o n tokens = append_assoc t (o ∷ n) tokens
 row_by : (flip : Bool) (axes : List Axis) (r : PlainRow) (rest : List ℕ) (tokens : List PlainToken) → AllOf IsNamed axes → IsShortRow r → Follows rest tokens
     → Says (row_text_by flip (map axis_text axes) r ++ rest) (row_tokens_by flip axes r ++ tokens)
 row_by flip axes r rest tokens named short f =
-    rw (row_grouped (terms_text (map axis_text axes) (map (turned flip) r.coefs)) (operator_text flip r.strict) (number_text (turned flip r.bound)) rest,
-      row_tokens_grouped (terms_tokens axes (map (turned flip) r.coefs)) (operator_token flip r.strict) (number_tokens (turned flip r.bound)) tokens)
+    rw (
+      row_grouped (terms_text (map axis_text axes) (map (turned flip) r.coefs)) (operator_text flip r.strict) (number_text (turned flip r.bound)) rest,
+      row_tokens_grouped (terms_tokens axes (map (turned flip) r.coefs)) (operator_token flip r.strict) (number_tokens (turned flip r.bound)) tokens,
+    )
     (terms_say axes (map (turned flip) r.coefs) _ _ named (all_turned flip r.coefs short.coefs)
-      (operator_says flip r.strict _ _ (number_says (turned flip r.bound) rest tokens (short_turned flip r.bound short.bound) f)))
+    (operator_says flip r.strict _ _ (number_says (turned flip r.bound) rest tokens (short_turned flip r.bound short.bound) f)))
 
 row_says : (axes : List Axis) (r : PlainRow) (rest : List ℕ) (tokens : List PlainToken) → AllOf IsNamed axes → IsShortRow r → Follows rest tokens → Says (row_text (map axis_text axes) r ++ rest) (row_tokens axes r ++ tokens)
 row_says axes r rest tokens named short f = row_by (leads_negative r) axes r rest tokens named short f

@@ -1,5 +1,5 @@
 -- Which rows do the tokens of a printed list of rows give?
-use Rattle.std.proofs.Common.{◌≡◌, ◌≤◌, ℕ, List, [], ◌∷◌, ◌++◌, length, map, refl, sym, ap, ◌∙◌, Bool, true, false, not, if◌then◌else◌, ◌&&◌, Option, Some, arith, append_assoc, append-nil, codes, nat_le}
+use Rattle.std.proofs.Common.{◌≡◌, ◌≤◌, ℕ, List, [], ◌∷◌, ◌++◌, length, map, refl, ap, ◌∙◌, Bool, true, false, not, ◌&&◌, Some, arith, append_assoc, append-nil, codes, nat_le}
 use Rattle.std.specs.Option.{option_and_then}
 use Rattle.std.proofs.lemmas.Bool.Decides.{nat_tests}
 use Rattle.std.proofs.lemmas.List.Folds.{list_all-append}
@@ -7,10 +7,10 @@ use Rattle.lhg_lex.specs.PlainToken.{PlainToken, sign}
 use Rattle.lhg_row.specs.Members.{AllOf}
 use Rattle.lhg_row.specs.Piece.{PlainPiece}
 use Rattle.lhg_row.specs.Row.{PlainRow}
+use Rattle.lhg_plant.specs.Limits.{most_line_rows}
 use Rattle.lhg_read.specs.Cut.{Cut, cut, parts_of}
-use Rattle.lhg_read.specs.Options.{joined}
-use Rattle.lhg_read.specs.Rows.{is_flow, constraint_of, constraints_of, line_rows, within_limit, list_of, rows_of}
-use Rattle.lhg_read.specs.Signs.{is_word, is_one_word, is_comma}
+use Rattle.lhg_read.specs.Rows.{is_flow, constraints_of, within_limit, list_of, rows_of}
+use Rattle.lhg_read.specs.Signs.{is_one_word, is_comma}
 use Rattle.lhg_read.specs.declared.forms.Form.{Form}
 use Rattle.lhg_text.specs.RowText.{turned, leads_negative}
 use Rattle.lhg_text.proofs.Cutting.{all_fail, behind_part, behind_mark, cut-part, cut-mark}
@@ -63,10 +63,10 @@ module _ (form : Form) (vars : List (List ℕ)) (axes : List Axis) (placed : Are
   next_read [] h = refl
   next_read (r ∷ rs) h = let c = constraint_reads form vars axes placed r h.0 in let m = next_read rs h.1 in rw (c, m) refl
 
-  few : (rows : PlainPiece) → length rows ≤ line_rows → within_limit rows ≡ Some rows
-  few rows h = let e : nat_le (length rows) line_rows ≡ true = grind (arith, nat_tests) in rw e refl
+  few : (rows : PlainPiece) → length rows ≤ most_line_rows → within_limit rows ≡ Some rows
+  few rows h = let e : nat_le (length rows) most_line_rows ≡ true = grind (arith, nat_tests) in rw e refl
 
-  list_read : (r : PlainRow) (rs : PlainPiece) → AllOf (IsRowOf form vars) (r ∷ rs) → length (r ∷ rs) ≤ line_rows → list_of form vars (row_tokens axes r ++ next_rows_tokens axes rs) ≡ Some (r ∷ rs)
+  list_read : (r : PlainRow) (rs : PlainPiece) → AllOf (IsRowOf form vars) (r ∷ rs) → length (r ∷ rs) ≤ most_line_rows → list_of form vars (row_tokens axes r ++ next_rows_tokens axes rs) ≡ Some (r ∷ rs)
   list_read r rs h few_rows =
       let c = constraint_reads form vars axes placed r h.0 in
       let m = next_read rs h.1 in
@@ -85,7 +85,7 @@ module _ (form : Form) (vars : List (List ℕ)) (axes : List Axis) (placed : Are
   and_false false = refl
 
   -- the tokens of a printed list of rows are read as these rows
-  pub rows_read : (rows : PlainPiece) → AllOf (IsRowOf form vars) rows → length rows ≤ line_rows → rows_of form vars (rows_tokens axes rows) ≡ Some rows
+  pub rows_read : (rows : PlainPiece) → AllOf (IsRowOf form vars) rows → length rows ≤ most_line_rows → rows_of form vars (rows_tokens axes rows) ≡ Some rows
   unfolding rows_of
   rows_read [] h few_rows = refl
   rows_read (r ∷ rs) h few_rows =

@@ -34,7 +34,7 @@ unfolding neg
 short_neg x h = record { top = subst (λ (n : ℕ). n ≤ limit) (abs-neg x.top) h.top; bottom = h.bottom }
 
 -- the negative has the same size
-pub size_text-neg : (x : Number) → size_text (neg x) ≡ size_text x
+size_text-neg : (x : Number) → size_text (neg x) ≡ size_text x
 unfolding neg
 size_text-neg x = let e = abs-neg x.top in rw e refl
 
@@ -67,7 +67,7 @@ unfolding nought whole ratio ratio_suc gcd
 short_nought = record { top = lit≤ tt; bottom = lit≤ tt }
 
 -- 0 is within the limit
-pub short_none : (x : Number) → is_nought x ≡ true → IsShort x
+short_none : (x : Number) → is_nought x ≡ true → IsShort x
 short_none x h = subst IsShort (sym (nought_is x h)) short_nought
 
 -- and so is a number without a sign to it

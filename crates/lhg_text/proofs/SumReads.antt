@@ -1,12 +1,10 @@
 -- Which terms do the tokens of a printed row say?
-use Rattle.std.proofs.Common.{◌≡◌, ◌+◌, ℕ, List, [], ◌∷◌, ◌++◌, length, map, refl, sym, ap, ◌∙◌, Bool, true, false, not, ◌==◌, ◌&&◌, if◌then◌else◌, Option, Some, None, arith, append-nil, eqb-true}
-use Rattle.std.proofs.Math.IntN.{pos}
+use Rattle.std.proofs.Common.{◌≡◌, ◌+◌, ℕ, List, [], ◌∷◌, ◌++◌, length, refl, sym, ap, ◌∙◌, Bool, true, false, not, ◌==◌, ◌&&◌, if◌then◌else◌, Some, arith, append-nil, eqb-true}
 use Rattle.std.specs.Int.RustNames.{unsigned_abs}
-use Rattle.std.specs.List.{list_all}
 use Rattle.std.specs.Option.{option_map}
 use Rattle.std.proofs.lemmas.Bool.{and_parts, true≢false}
 use Rattle.std.proofs.lemmas.List.Folds.{list_all-append}
-use Rattle.lhg_math.specs.Number.{Number, neg, lt, nought, unit, whole, ratio}
+use Rattle.lhg_math.specs.Number.{Number, neg, lt, nought, unit, whole}
 use Rattle.lhg_math.specs.NumberOrder.{lt_irrefl, lt_asym}
 use Rattle.lhg_math.specs.NumberRing.{neg_neg}
 use Rattle.lhg_math.specs.Signs.{is_nought, lead}
@@ -14,7 +12,6 @@ use Rattle.lhg_math.specs.SignLaws.{is_nought-positive}
 use Rattle.lhg_math.specs.Tests.{by_bool}
 use Rattle.lhg_lex.specs.PlainToken.{PlainToken, word, number, sign}
 use Rattle.lhg_read.specs.Cut.{Cut, cut}
-use Rattle.lhg_read.specs.Options.{consed}
 use Rattle.lhg_read.specs.Signs.{is_minus, is_plus_or_minus}
 use Rattle.lhg_read.specs.Sum.{signed, terms_behind, terms_from, begins_with_minus, sum_of}
 use Rattle.lhg_read.specs.Term.{term_of, variable_of}

@@ -15,10 +15,12 @@ line text = text ++ 10 ∷ []
 abbrev pub spaced : List (List ℕ) → List ℕ
 spaced words = join_with_byte 32 words
 
+-- who takes a switch
 abbrev pub side_text : Side → List ℕ
 side_text Ctl = codes "ctl"
 side_text Env = codes "env"
 
+-- the name of a location, where it is there
 abbrev pub location_name : Option PlainLocation → List ℕ
 location_name None = []
 location_name (Some l) = l.name
@@ -36,14 +38,14 @@ location_lines vars l =
     ∷ map (safe_line vars) l.safe
 
 -- the line of a switch; the new variables come after the old ones, with `'`
-abbrev pub switch_line : PlainPlant → PlainSwitch → List ℕ
-switch_line a s =
-    spaced (codes "switch" ∷ s.name ∷ side_text s.side ∷ location_name (slice_get a.locs s.from) ∷ location_name (slice_get a.locs s.to) ∷ rows_text (jump_names a.vars) s.jump ∷ [])
+abbrev pub switch_line : List (List ℕ) → List PlainLocation → PlainSwitch → List ℕ
+switch_line vars locs s =
+    spaced (codes "switch" ∷ s.name ∷ side_text s.side ∷ location_name (slice_get locs s.from) ∷ location_name (slice_get locs s.to) ∷ rows_text (jump_names vars) s.jump ∷ [])
 
 -- the lines of a plant: the head, the variables, the locations, the switches, and the end
 abbrev pub plant_lines : PlainPlant → List (List ℕ)
 plant_lines a =
-    codes "lhg 1" ∷ spaced (codes "vars" ∷ a.vars) ∷ (flat_map (location_lines a.vars) a.locs ++ (map (switch_line a) a.switches ++ codes "end" ∷ []))
+    codes "lhg 1" ∷ spaced (codes "vars" ∷ a.vars) ∷ (flat_map (location_lines a.vars) a.locs ++ (map (switch_line a.vars a.locs) a.switches ++ codes "end" ∷ []))
 
 -- each line ends with a line feed
 abbrev pub plant_text : PlainPlant → List ℕ

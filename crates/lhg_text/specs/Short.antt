@@ -6,7 +6,7 @@ use Rattle.lhg_lex.specs.Literal.{limit}
 use Rattle.lhg_row.specs.Members.{AllOf}
 use Rattle.lhg_row.specs.Piece.{PlainPiece}
 use Rattle.lhg_row.specs.Row.{PlainRow}
-use Rattle.lhg_plant.specs.Plant.{PlainLocation, PlainSwitch, PlainPlant}
+use Rattle.lhg_plant.specs.Plant.{PlainLocation, PlainPlant}
 
 -- the size of the numerator and the denominator are within the limit
 pub record IsShort (x : Number) : Type 0 where

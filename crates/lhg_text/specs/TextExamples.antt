@@ -1,12 +1,9 @@
 -- Rows and lists of rows, as they are printed.
-use Rattle.std.specs.Prelude.{◌≡◌, ℕ, List, [], ◌∷◌, codes, true, false, pos, negsuc, refl}
+use Rattle.std.specs.Prelude.{◌≡◌, [], ◌∷◌, codes, true, false, pos, negsuc, refl}
 use Rattle.std.specs.Fmt.{digits}
 use Rattle.lhg_math.specs.Number.{ratio, ratio_suc, add, mul, neg, lt, nought, unit, whole}
 use Rattle.lhg_math.specs.Gcd.{gcd}
 use Rattle.lhg_text.specs.RowText.{row_text, rows_text}
-
-abbrev two_variables : List (List ℕ)
-two_variables = codes "x" ∷ codes "y" ∷ []
 
 pub record RowExamples : Type 0 where
   pub at_least : row_text (codes "x" ∷ []) (record { coefs = ratio (negsuc 0) 1 ∷ []; strict = false; bound = ratio (negsuc 17) 1 }) ≡ codes "x >= 18"

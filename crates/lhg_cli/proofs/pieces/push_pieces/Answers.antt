@@ -1,6 +1,6 @@
 use Rattle.std.proofs.Common.{length, sym, subst}
 use Rattle.lhg_row.specs.Width.{AllWide}
-use Rattle.lhg_cli.proofs.Members.{all_map_at}
+use Rattle.lhg_text.proofs.Members.{all_map_at}
 use Rattle.lhg_cli.proofs.pieces.push_pieces.Goals as goal
 
 pub push_piece_line-requires : goal.push_piece_line-requires

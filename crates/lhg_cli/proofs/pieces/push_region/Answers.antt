@@ -2,7 +2,7 @@ use Rattle.std.proofs.Common.{length}
 use Rattle.lhg_row.specs.Width.{AllWide}
 use Rattle.lhg_row.specs.Members.{AllOf}
 use Rattle.lhg_cli.specs.Pieces.{plain_pieces}
-use Rattle.lhg_cli.proofs.Members.{all_map_at}
+use Rattle.lhg_text.proofs.Members.{all_map_at}
 use Rattle.lhg_cli.proofs.pieces.push_region.Goals as goal
 
 pub push_pieces-requires : goal.push_pieces-requires

@@ -1,4 +1,4 @@
-use Rattle.std.proofs.Common.{◌≡◌, ◌++◌, sym, ap, ◌∙◌, subst, codes, get_or, [], true}
+use Rattle.std.proofs.Common.{◌++◌, sym, ap, ◌∙◌, subst, codes, get_or, []}
 use Rattle.std.proofs.lemmas.Result.{on_ok_weaker}
 use Rattle.lhg_math.specs.Number.{lt, nought}
 use Rattle.lhg_text.specs.RowText.{jump_names, term_text}

@@ -1,9 +1,9 @@
-use Rattle.std.proofs.Common.{◌≡◌, ◌<◌, ◌+◌, ◌++◌, length, drop, map, get_or, [], arith, ap, sym, ◌∙◌, subst, append_assoc, append-nil}
-use Rattle.lhg_row.specs.Members.{AllOf}
-use Rattle.lhg_text.specs.RowText.{jump_names, next_term, next_terms, turned}
+use Rattle.std.proofs.Common.{◌<◌, length, arith, subst}
+use Rattle.lhg_text.specs.RowText.{jump_names, turned}
 use Rattle.lhg_text.specs.Short.{IsShort}
 use Rattle.lhg_text.proofs.Appended.{stepped, finished}
-use Rattle.lhg_text.proofs.RowTerms.{all_from, next_terms-from, next_terms-past, length-jump_names}
+use Rattle.lhg_text.proofs.Members.{all_from}
+use Rattle.lhg_text.proofs.RowTerms.{next_terms-from, next_terms-past, length-jump_names}
 use Rattle.lhg_text.proofs.Shorts.{short_turned}
 use Rattle.lhg_text.proofs.terms.push_next_terms.Goals as goal
 

@@ -1,10 +1,10 @@
-use Rattle.std.proofs.Common.{◌<◌, length, get_or, arith, ap, sym, ◌∙◌, subst}
+use Rattle.std.proofs.Common.{◌<◌, length, arith, subst}
 use Rattle.std.proofs.lemmas.Result.{on_ok_weaker}
-use Rattle.lhg_math.specs.Number.{lt, nought}
 use Rattle.lhg_text.specs.RowText.{jump_names, turned}
 use Rattle.lhg_text.specs.Short.{IsShort}
 use Rattle.lhg_text.proofs.Appended.{appended}
-use Rattle.lhg_text.proofs.RowTerms.{all_from, terms_from-at, length-jump_names}
+use Rattle.lhg_text.proofs.Members.{all_from}
+use Rattle.lhg_text.proofs.RowTerms.{terms_from-at, length-jump_names}
 use Rattle.lhg_text.proofs.Shorts.{short_turned}
 use Rattle.lhg_text.proofs.terms.push_terms_from.Goals as goal
 

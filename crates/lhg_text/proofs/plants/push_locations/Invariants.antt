@@ -1,0 +1,13 @@
+use Rattle.std.proofs.Common.{◌≡◌, ◌++◌, drop, map}
+use Rattle.std.specs.List.{flat_map}
+use Rattle.lhg_row.specs.Members.{AllOf}
+use Rattle.lhg_plant.specs.Views.{plain_location}
+use Rattle.lhg_text.specs.PlantText.{line, location_lines}
+use Rattle.lhg_text.specs.Short.{IsShortLocation}
+use Rattle.lhg_text.proofs.plants.push_locations.Given as goal
+
+abbrev pub invariant-loop-i : goal.invariant-loop-i
+invariant-loop-i l = record {
+  text : l.text.items ++ flat_map line (flat_map (location_lines l.vars) (map plain_location (drop l.i l.locs))) ≡ l.fn.text.items ++ flat_map line (flat_map (location_lines l.vars) (map plain_location l.locs));
+  short : AllOf IsShortLocation (map plain_location (drop l.i l.locs)) → AllOf IsShortLocation (map plain_location l.locs);
+}
