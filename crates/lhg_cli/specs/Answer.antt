@@ -9,7 +9,8 @@ use Rattle.lhg_lex.specs.Lines.{lines_of}
 use Rattle.lhg_lex.specs.FirstBad.{IsFirstBad}
 use Rattle.lhg_read.specs.SmallText.{IsSmallText}
 use Rattle.lhg_read.specs.SmallPlant.{IsSmallTextOf}
-use Rattle.lhg_cli.specs.ReportText.{line, report_text}
+use Rattle.lhg_text.specs.PlantText.{line}
+use Rattle.lhg_cli.specs.ReportText.{report_text}
 use Rattle.lhg_cli.specs.declared.status.Status.{Status}
 use Rattle.lhg_cli.specs.declared.status.Status.TheVariants as status
 

@@ -5,11 +5,8 @@ use Rattle.lhg_plant.specs.Plant.{PlainPlant, PlainLocation, PlainSwitch}
 use Rattle.lhg_plant.specs.Region.{PlainRegion, PlainGuards}
 use Rattle.lhg_plant.specs.Controller.{PlainController}
 use Rattle.lhg_plant.specs.Loss.{PlainLoss, PlainCause, by_env, by_leave, by_flow}
+use Rattle.lhg_text.specs.PlantText.{line, location_name}
 use Rattle.lhg_text.specs.RowText.{rows_text}
-
--- the text and a line feed
-abbrev pub line : List ℕ → List ℕ
-line text = text ++ 10 ∷ []
 
 -- a line for each piece, with the same head
 abbrev pub piece_lines : List ℕ → List (List ℕ) → List PlainPiece → List ℕ
@@ -30,10 +27,6 @@ guard_lines vars (w ∷ ws) (ps ∷ guards) = piece_lines (codes "guard " ++ w.n
 
 abbrev pub controller_text : PlainPlant → PlainController → List ℕ
 controller_text a c = line (codes "controller 1") ++ region_lines a.vars a.locs c.region ++ guard_lines a.vars a.switches c.guards ++ line (codes "end")
-
-abbrev pub location_name : Option PlainLocation → List ℕ
-location_name None = []
-location_name (Some l) = l.name
 
 abbrev pub switch_name : Option PlainSwitch → List ℕ
 switch_name None = []

@@ -1,6 +1,6 @@
 // Makes the answers of one line.
 ghost use Rattle.std.specs.Prelude.{◌≡◌, ◌++◌, IfOk, decimal, codes};
-ghost use Rattle.lhg_cli.specs.ReportText.{line};
+ghost use Rattle.lhg_text.specs.PlantText.{line};
 ghost use Rattle.lhg_cli.specs.Answer.{usage_text};
 
 use itoa::Buffer;

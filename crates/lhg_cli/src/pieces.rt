@@ -4,13 +4,14 @@ ghost use Rattle.lhg_row.specs.Width.{AllWide};
 ghost use Rattle.lhg_row.specs.Members.{AllOf};
 ghost use Rattle.lhg_plant.specs.Views.{plain_plant, plain_location};
 ghost use Rattle.lhg_cli.specs.Pieces.{plain_pieces, plain_region};
+ghost use Rattle.lhg_text.specs.PlantText.{line};
 ghost use Rattle.lhg_text.specs.RowText.{rows_text};
-ghost use Rattle.lhg_cli.specs.ReportText.{line, piece_lines, region_lines, report_text};
+ghost use Rattle.lhg_cli.specs.ReportText.{piece_lines, region_lines, report_text};
 
-use lhg_text::push_rows;
 use lhg_num::Frac;
 use lhg_plant::{Location, Name, Plant};
 use lhg_row::Row;
+use lhg_text::push_rows;
 use std::alloc::{AllocError, Global};
 
 /// A list of rows.
