@@ -1,5 +1,5 @@
 -- Steps of the loops that meet one piece with a list, and a list with a list.
-use Rattle.std.proofs.Common.{◌≡◌, ℕ, ◌+◌, ◌<◌, ◌≤◌, List, [], ◌∷◌, ◌++◌, length, drop, get_or, Option, Some, None, refl, sym, ap, ◌∙◌, subst, append-nil}
+use Rattle.std.proofs.Common.{◌≡◌, ℕ, ◌+◌, ◌<◌, ◌≤◌, List, [], ◌∷◌, ◌++◌, length, map, drop, get_or, Option, Some, None, refl, sym, ap, ◌∙◌, subst, append-nil}
 use Rattle.std.proofs.lemmas.List.{drop_all}
 use Rattle.lhg_num.specs.Arithmetic.{Arithmetic}
 use Rattle.lhg_num.specs.Marked.{Marked, and_then, valued}
@@ -20,31 +20,37 @@ listed-append None ps = refl
 listed-append (Some p) ps = refl
 
 -- ---- one piece with a list
--- the meets so far
-pub record IsMeeting (a : Arithmetic) (n : ℕ) (p : PlainPiece) (qs out : List PlainSystem) (i : ℕ) : Type 0 where
-  pub built : IsBuilt (meet_each a n p (lines_of qs)) (lines_of out) (meet_each a n p (lines_of (drop i qs)))
+-- the meets so far with the rows of each member of a list
+pub record IsMeeting (a : Arithmetic) (n : ℕ) (p : PlainPiece) {Q : Type 0} (rows : Q → PlainPiece) (qs : List Q) (out : List PlainSystem) (i : ℕ) : Type 0 where
+  pub built : IsBuilt (meet_each a n p (map rows qs)) (lines_of out) (meet_each a n p (map rows (drop i qs)))
   pub vars : AllVars n out
 
-module _ (a : Arithmetic) (n : ℕ) (p : PlainPiece) (qs out : List PlainSystem) (i : ℕ) (q : PlainSystem) (q_is : q ≡ get_or qs i q) (in_qs : i < length qs) (h : IsMeeting a n p qs out i) where
+module _ (a : Arithmetic) (n : ℕ) (p : PlainPiece) {Q : Type 0} (rows : Q → PlainPiece) (qs : List Q) (out : List PlainSystem) (i : ℕ) (q : Q) (q_is : q ≡ get_or qs i q) (in_qs : i < length qs) (h : IsMeeting a n p rows qs out i) where
   abbrev whole : Marked (List PlainPiece)
-  whole = meet_each a n p (lines_of qs)
+  whole = meet_each a n p (map rows qs)
 
-  here : IsBuilt whole (lines_of out) (and_then (meet a n p q.lines) (λ o. valued (λ ps. listed o [] ++ ps) (meet_each a n p (lines_of (drop (i + 1) qs)))))
+  abbrev behind : Marked (List PlainPiece)
+  behind = meet_each a n p (map rows (drop (i + 1) qs))
+
+  here : IsBuilt whole (lines_of out) (and_then (meet a n p (rows q)) (λ o. valued (λ ps. listed o [] ++ ps) behind))
   here =
-      let rest = meet_each a n p (lines_of (drop (i + 1) qs)) in
-      let f : IsBuilt whole (lines_of out) (and_then (meet a n p q.lines) (λ o. valued (listed o) rest)) = subst (λ rs. IsBuilt whole (lines_of out) (meet_each a n p (lines_of rs))) (drop_cons qs i q q_is in_qs) h.built in
-      record { same = ap (λ ps. lines_of out ++ ps) (sym (listed-append (meet a n p q.lines).value rest.value)) ∙ f.same; part = record { wide = f.part.wide; rows = f.part.rows; pieces = f.part.pieces } }
+      let f : IsBuilt whole (lines_of out) (and_then (meet a n p (rows q)) (λ o. valued (listed o) behind)) = subst (λ rs. IsBuilt whole (lines_of out) (meet_each a n p (map rows rs))) (drop_cons qs i q q_is in_qs) h.built in
+      record { same = ap (λ ps. lines_of out ++ ps) (sym (listed-append (meet a n p (rows q)).value behind.value)) ∙ f.same; part = record { wide = f.part.wide; rows = f.part.rows; pieces = f.part.pieces } }
 
   -- the marks of the next meet
-  pub meeting-part : IsPart whole (meet a n p q.lines)
-  meeting-part = more-part whole (lines_of out) (meet a n p q.lines) (λ o. listed o []) (meet_each a n p (lines_of (drop (i + 1) qs))) here
+  pub meeting-part : IsPart whole (meet a n p (rows q))
+  meeting-part = more-part whole (lines_of out) (meet a n p (rows q)) (λ o. listed o []) behind here
 
   -- the next meet
-  pub meeting-step : (more : List PlainSystem) → lines_of more ≡ lines_of out ++ listed (meet a n p q.lines).value [] → AllVars n more → IsMeeting a n p qs more (i + 1)
+  pub meeting-step : (more : List PlainSystem) → lines_of more ≡ lines_of out ++ listed (meet a n p (rows q)).value [] → AllVars n more → IsMeeting a n p rows qs more (i + 1)
   meeting-step more e v = record {
-    built = subst (λ ps. IsBuilt whole ps (meet_each a n p (lines_of (drop (i + 1) qs)))) (sym e) (more-step whole (lines_of out) (meet a n p q.lines) (λ o. listed o []) (meet_each a n p (lines_of (drop (i + 1) qs))) here (meet a n p q.lines).value refl);
+    built = subst (λ ps. IsBuilt whole ps behind) (sym e) (more-step whole (lines_of out) (meet a n p (rows q)) (λ o. listed o []) behind here (meet a n p (rows q)).value refl);
     vars = v;
   }
+
+-- at the end the meets are all that there are
+pub meeting-end : (a : Arithmetic) (n : ℕ) (p : PlainPiece) {Q : Type 0} (rows : Q → PlainPiece) (qs : List Q) (out : List PlainSystem) (i : ℕ) → length qs ≤ i → IsMeeting a n p rows qs out i → lines_of out ≡ (meet_each a n p (map rows qs)).value
+meeting-end a n p rows qs out i h w = sym (append-nil (lines_of out)) ∙ sym (ap (λ rs. lines_of out ++ (meet_each a n p (map rows rs)).value) (drop_all i qs h)) ∙ w.built.same
 
 -- ---- a list with a list
 -- the meets of the pieces so far, whatever n their variables are

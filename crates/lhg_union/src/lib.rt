@@ -10,6 +10,7 @@ mod regions;
 #[cfg(test)]
 mod tests;
 
+pub use cutting::push_some;
 pub use differences::{covered, minus};
 pub use intersections::meet_lists;
 pub use limits::{LIST_ROW_LIMIT, PIECE_LIMIT};
