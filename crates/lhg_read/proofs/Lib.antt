@@ -17,6 +17,7 @@ pub mod OneValue
 pub mod PairRows
 pub mod PairSteps
 pub mod PlantContinues
+pub mod PlantEnds
 pub mod PlantParts
 pub mod PlantProper
 pub mod PlantReading

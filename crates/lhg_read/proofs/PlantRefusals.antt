@@ -76,7 +76,7 @@ none_at_head head (x ∷ y ∷ a) b e h = clash head x y (a ++ b) e
 
 module _ (lines : List (List Spot)) (vars : List (List ℕ)) (d : PlainDraft) (b : IsBegun lines vars d) where
   -- what a plant that begins so has taken
-  goes_on : (more : List (List Spot)) (p : PlainPlant) → IsPlant (lines ++ more) p → (e : PlainDraft) × (all_taken vars d (map said_in more) ≡ Some e) × (e.ended ≡ true) × (plant_with vars e ≡ p)
+  pub goes_on : (more : List (List Spot)) (p : PlainPlant) → IsPlant (lines ++ more) p → (e : PlainDraft) × (all_taken vars d (map said_in more) ≡ Some e) × (e.ended ≡ true) × (plant_with vars e ≡ p)
   goes_on more p h =
       let g = begun_of_plant (lines ++ more) p h in
       let f = g.1 in

@@ -155,7 +155,7 @@ pub record Parts (xs ys : List (List ℕ)) (tokens : List (List Spot)) : Type 0 
   pub second_are : token_lines ys ≡ Some second
   pub whole : tokens ≡ first ++ second
 
-parts_of : (xs ys : List (List ℕ)) (tokens : List (List Spot)) → token_lines (xs ++ ys) ≡ Some tokens → Parts xs ys tokens
+pub parts_of : (xs ys : List (List ℕ)) (tokens : List (List Spot)) → token_lines (xs ++ ys) ≡ Some tokens → Parts xs ys tokens
 parts_of xs ys tokens e = by_both (token_lines xs) (token_lines ys) refl refl (sym (token_lines-append xs ys) ∙ e)
   where
     by_both : (a b : Option (List (List Spot))) → token_lines xs ≡ a → token_lines ys ≡ b → joined (token_lines xs) (token_lines ys) ≡ Some tokens → Parts xs ys tokens

@@ -13,6 +13,7 @@ pub mod Pair
 pub mod PlantLine
 pub mod PlantSteps
 pub mod PlantText
+pub mod PlantTextLaws
 pub mod PointText
 pub mod Refusals
 pub mod Refused

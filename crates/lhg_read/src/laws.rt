@@ -1,5 +1,6 @@
-// What callers may rest on: a text has one value.
+// What callers may rest on: a text has one value, and a plant's text ends.
 ghost use Rattle.lhg_read.specs.Laws.{OneValue};
+ghost use Rattle.lhg_read.specs.PlantTextLaws.{PlantTextLaws};
 ghost use Rattle.lhg_read.specs.TextLaws.{TextLaws};
 
 /// A small text has one value.
@@ -10,4 +11,9 @@ pub fn law_one_value()
 /// A text is one plant at most, and one state of a plant at most.
 pub fn law_texts()
     ensures { TextLaws }
+{}
+
+/// Only blank lines may follow the text of a plant.
+pub fn law_plants()
+    ensures { PlantTextLaws }
 {}
