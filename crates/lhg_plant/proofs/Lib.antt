@@ -15,6 +15,7 @@ pub mod RunAnswers
 pub mod RunDetermined
 pub mod RunExists
 pub mod RunInside
+pub mod SafeStates
 pub mod Settled
 pub mod Solutions
 pub mod StaysInside

@@ -18,6 +18,8 @@ use Rattle.lhg_plant.specs.Controller.{PlainController, IsValid}
 use Rattle.lhg_plant.specs.Run.{PlainEntry, PlainStep, RunPlace, IsRun}
 use Rattle.lhg_plant.specs.Solution.{InSomeLoss, IsSolution}
 use Rattle.lhg_plant.specs.Still.{IsStill, HasNoSwitch}
+use Rattle.lhg_plant.specs.Proper.{IsProper}
+use Rattle.lhg_plant.specs.SafeRegion.{safe_region}
 use Rattle.lhg_plant.specs.Word.{IsName, IsVariable}
 use Rattle.lhg_plant.specs.Log.{EachVisited, IsLegalLog, IsFirstIllegal, StaysInside}
 
@@ -104,3 +106,7 @@ pub record WordLaws : Type 0 where
   pub name : (bytes : List ℕ) → IsName bytes ⊎ ¬ IsName bytes
   pub variable : (bytes : List ℕ) → IsVariable bytes ⊎ ¬ IsVariable bytes
   pub some_byte : (bytes : List ℕ) → IsName bytes → 0 < length bytes
+
+-- the pieces of the safe region of a plant hold exactly its safe states, which are round 0
+abbrev pub SafeRegionLaw : PlainPlant → Type 0
+SafeRegionLaw a = IsProper a → (s : PlainState) → InRegion a (safe_region a).value s ↔ IsSafe a s

@@ -18,6 +18,7 @@ pub mod ProperOnce
 pub mod Region
 pub mod Round
 pub mod Run
+pub mod SafeRegion
 pub mod Solution
 pub mod Sound
 pub mod State

@@ -9,7 +9,7 @@ ghost use Rattle.lhg_plant.specs.Still.{IsStill, HasNoSwitch};
 ghost use Rattle.lhg_plant.specs.Controller.{PlainController};
 ghost use Rattle.lhg_plant.specs.Loss.{PlainLoss};
 ghost use Rattle.lhg_plant.specs.Example.{WordFacts, ThermostatFacts, TankFacts};
-ghost use Rattle.lhg_plant.specs.Laws.{MemberLaws, LegalLaws, MonotoneLaws, RoundLaws, ValidLaws, RunLaws, LossLaws, SolvedLaw, StillLaws, WordLaws};
+ghost use Rattle.lhg_plant.specs.Laws.{MemberLaws, LegalLaws, MonotoneLaws, RoundLaws, ValidLaws, RunLaws, LossLaws, SolvedLaw, StillLaws, SafeRegionLaw, WordLaws};
 
 use crate::sets::StateSet;
 
@@ -75,6 +75,11 @@ pub fn law_still_sets<T: StateSet, U: StateSet>(set: &T, past: &U)
     let _ = set;
     let _ = past;
 }
+
+/// The safe region of the calculus holds exactly the safe states.
+pub fn law_safe_region()
+    ensures { (a : PlainPlant) → SafeRegionLaw a }
+{}
 
 /// Whether bytes are a name is decidable.
 pub fn law_words()

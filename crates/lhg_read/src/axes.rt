@@ -86,7 +86,7 @@ fn push_keep(alloc: Global, n: usize, v: usize, rows: &mut Vec<Row<Frac>>) -> Re
 }
 
 /// The rows that let none of n variables move.
-pub(crate) fn still_rows(alloc: Global, n: usize) -> Result<Vec<Row<Frac>>, AllocError>
+pub fn still_rows(alloc: Global, n: usize) -> Result<Vec<Row<Frac>>, AllocError>
     ensures { IfOk result (λ v. v.items ≡ still_rows n) }
 {
     let mut rows = Vec::new(alloc);

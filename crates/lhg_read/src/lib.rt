@@ -31,6 +31,7 @@ mod terms;
 mod tests;
 mod words;
 
+pub use axes::still_rows;
 pub use forms::Form;
 pub use plant::read_plant;
 pub use points::read_point;
