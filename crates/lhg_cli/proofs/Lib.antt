@@ -1,5 +1,7 @@
 pub mod Complete
 pub mod RegionTexts
-pub mod SmallRegion
-pub mod SmallSolution
-pub mod WholeOrder
+pub mod Reported
+pub mod SafeSteps
+pub mod SameRows
+pub mod StillPlaces
+pub mod WholeInput

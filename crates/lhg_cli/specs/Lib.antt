@@ -1,6 +1,4 @@
 pub mod Answer
-pub mod Kept
-pub mod Pieces
+pub mod PlantAnswer
+pub mod Refusal
 pub mod ReportText
-pub mod Small
-pub mod SmallRegion

@@ -2,8 +2,9 @@
 #![tactic(auto)]
 
 mod answers;
-mod kept;
+mod input;
 mod pieces;
+mod safe;
 mod status;
 mod still;
 #[cfg(test)]

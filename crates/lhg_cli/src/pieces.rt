@@ -3,19 +3,19 @@ ghost use Rattle.std.specs.Prelude.{◌≡◌, ◌++◌, [], OnOk, IfOk, length,
 ghost use Rattle.lhg_row.specs.Width.{AllWide};
 ghost use Rattle.lhg_row.specs.Members.{AllOf};
 ghost use Rattle.lhg_plant.specs.Views.{plain_plant, plain_location};
-ghost use Rattle.lhg_cli.specs.Pieces.{plain_pieces, plain_region};
-ghost use Rattle.lhg_text.specs.PlantText.{line};
+ghost use Rattle.lhg_union.specs.PolyLists.{lines_of, AllVars};
+ghost use Rattle.lhg_union.specs.Regions.{plain_region};
 ghost use Rattle.lhg_text.specs.RowText.{rows_text};
+ghost use Rattle.lhg_text.specs.PlantText.{line};
 ghost use Rattle.lhg_cli.specs.ReportText.{piece_lines, region_lines, report_text};
 
 use lhg_num::Frac;
-use lhg_plant::{Location, Name, Plant};
+use lhg_plant::{Name, Plant};
+use lhg_poly::Poly;
 use lhg_row::Row;
 use lhg_text::push_rows;
+use lhg_union::Region;
 use std::alloc::{AllocError, Global};
-
-/// A list of rows.
-pub type Piece = Vec<Row<Frac>>;
 
 fn push_piece_line(
     text: &mut Vec<u8>,
@@ -38,39 +38,35 @@ fn push_pieces(
     text: &mut Vec<u8>,
     location: &[u8],
     vars: &[Name],
-    pieces: &[Piece],
+    pieces: &[Poly<Frac>],
 ) -> Result<(), AllocError>
-    requires { AllOf (AllWide (length vars.now)) (plain_pieces pieces.now) }
-    ensures { OnOk result (text.new.items ≡ text.old.items ++ piece_lines (codes "piece " ++ location.now) vars.now (plain_pieces pieces.now)) }
+    requires { AllVars (length vars.now) pieces.now }
+    ensures { OnOk result (text.new.items ≡ text.old.items ++ piece_lines (codes "piece " ++ location.now) vars.now (lines_of pieces.now)) }
 {
-    for i in 0..pieces.len() {
-        push_piece_line(text, location, vars, pieces[i].as_slice())?;
+    for piece in pieces {
+        push_piece_line(text, location, vars, piece.rows())?;
     }
     Ok(())
 }
 
 // The pieces of all locations.
-fn push_region(text: &mut Vec<u8>, plant: &Plant, region: &[Vec<Piece>]) -> Result<(), AllocError>
-    requires same_length { length region.now ≡ length plant.now.locs.items }
-    requires wide { AllOf (AllOf (AllWide (length plant.now.vars.items))) (plain_region region.now) }
-    ensures { OnOk result (text.new.items ≡ text.old.items ++ region_lines plant.now.vars.items (map plain_location plant.now.locs.items) (plain_region region.now)) }
+fn push_region(text: &mut Vec<u8>, plant: &Plant, region: &Region<Frac>) -> Result<(), AllocError>
+    requires same_length { length region.now.pieces.items ≡ length plant.now.locs.items }
+    requires vars { AllOf (λ ps. AllVars (length plant.now.vars.items) ps.items) region.now.pieces.items }
+    ensures { OnOk result (text.new.items ≡ text.old.items ++ region_lines plant.now.vars.items (map plain_location plant.now.locs.items) (plain_region region.now.pieces.items)) }
 {
-    for i in 0..region.len() {
-        push_pieces(
-            text,
-            plant.locs[i].name.bytes(),
-            plant.vars.as_slice(),
-            region[i].as_slice(),
-        )?;
+    for i in 0..region.pieces.len() {
+        let location = plant.locs[i].name.bytes();
+        push_pieces(text, location, &plant.vars, &region.pieces[i])?;
     }
     Ok(())
 }
 
 /// The report of a plant with this region, one round, no guard and no loss.
-pub fn report_of(alloc: Global, plant: &Plant, region: &[Vec<Piece>]) -> Result<Vec<u8>, AllocError>
-    requires same_length { length region.now ≡ length plant.now.locs.items }
-    requires wide { AllOf (AllOf (AllWide (length plant.now.vars.items))) (plain_region region.now) }
-    ensures { IfOk result (λ v. v.items ≡ report_text (plain_plant plant.now) 1 (record { region = plain_region region.now; guards = [] }) []) }
+pub fn report_of(alloc: Global, plant: &Plant, region: &Region<Frac>) -> Result<Vec<u8>, AllocError>
+    requires same_length { length region.now.pieces.items ≡ length plant.now.locs.items }
+    requires vars { AllOf (λ ps. AllVars (length plant.now.vars.items) ps.items) region.now.pieces.items }
+    ensures { IfOk result (λ v. v.items ≡ report_text (plain_plant plant.now) 1 (record { region = plain_region region.now.pieces.items; guards = [] }) []) }
 {
     let mut text = Vec::from_slice(alloc, b"report 1\nrounds 1\ncontroller 1\n")?;
     push_region(&mut text, plant, region)?;

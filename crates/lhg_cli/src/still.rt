@@ -1,33 +1,55 @@
-// Solves the game of a small plant, and reports.
-ghost use Rattle.std.specs.Prelude.{IfOk};
+// Answers plants in which nothing moves.
+ghost use Rattle.std.specs.Prelude.{◌≡◌, IfOk};
+ghost use Rattle.std.specs.Bool.{Decides};
 ghost use Rattle.lhg_plant.specs.Views.{plain_plant};
-ghost use Rattle.lhg_cli.specs.Pieces.{plain_region};
-ghost use Rattle.lhg_cli.specs.Small.{IsSmallPlant, IsSmallRegion};
-ghost use Rattle.lhg_cli.specs.Answer.{IsReport};
+ghost use Rattle.lhg_cli.specs.PlantAnswer.{IsTakenPlant};
 
-use crate::kept::kept;
-use crate::pieces::{Piece, report_of};
+use lhg_num::Frac;
 use lhg_plant::Plant;
+use lhg_read::still_rows;
+use lhg_row::Row;
 use std::alloc::{AllocError, Global};
 
-// The region: the safe states of the one location, in one piece where there is one.
-fn solve(alloc: Global, plant: &Plant) -> Result<Vec<Vec<Piece>>, AllocError>
-    requires { IsSmallPlant (plain_plant plant.now) }
-    ensures { IfOk result (λ v. IsSmallRegion (plain_plant plant.now) (plain_region v.items)) }
+/// Whether nothing moves in the plant: its locations are still, and it has no switch.
+pub fn is_still(alloc: Global, plant: &Plant) -> Result<bool, AllocError>
+    ensures { IfOk result (λ b. Decides b (IsTakenPlant (plain_plant plant.now))) }
 {
-    let location = &plant.locs[0];
-    let line = &location.safe[0];
-    let pieces = kept(alloc, &location.inv[0], &location.inv[1], &line[0])?;
-    let mut region = Vec::new(alloc);
-    region.push(pieces)?;
-    Ok(region)
+    if !plant.switches.is_empty() {
+        return Ok(false);
+    }
+    let still = still_rows(alloc, plant.vars.len())?;
+    for location in &plant.locs {
+        if !are_same(&location.flow, &still) {
+            return Ok(false);
+        }
+    }
+    Ok(true)
 }
 
-/// The report of a small plant.
-pub fn report(alloc: Global, plant: &Plant) -> Result<Vec<u8>, AllocError>
-    requires { IsSmallPlant (plain_plant plant.now) }
-    ensures { IfOk result (λ v. IsReport (plain_plant plant.now) v.items) }
+// Whether these are the same rows in the same order.
+fn are_same(rows: &[Row<Frac>], others: &[Row<Frac>]) -> bool
+    ensures { Decides result (rows.now ≡ others.now) }
 {
-    let region = solve(alloc, plant)?;
-    report_of(alloc, plant, region.as_slice())
+    if rows.len() != others.len() {
+        return false;
+    }
+    for i in 0..rows.len() {
+        if !is_same(&rows[i], &others[i]) {
+            return false;
+        }
+    }
+    true
+}
+
+// Whether this is the same row.
+fn is_same(row: &Row<Frac>, other: &Row<Frac>) -> bool
+    ensures { Decides result (row.now ≡ other.now) }
+{
+    if row.kind.is_strict() != other.kind.is_strict() {
+        return false;
+    }
+    if row.bound != other.bound {
+        return false;
+    }
+    row.coefs == other.coefs
 }

@@ -2,15 +2,20 @@
 ghost use Rattle.std.specs.Prelude.{◌≡◌, ◌≢◌, ◌≤◌, ◌<◌, ◌↔◌, ℕ, List, Some, map, length, take, string_bytes, IfOk, IfErr, IfSome, OnErr, ◌⊎◌, IsTrue};
 ghost use Rattle.std.specs.Io.KnownBytes.{Appends, IsAtEnd};
 ghost use Rattle.lhg_io.specs.Faults.{Rose};
-ghost use Rattle.lhg_lex.specs.Lines.{lines_of};
-ghost use Rattle.lhg_read.specs.SmallText.{IsSmallText};
-ghost use Rattle.lhg_cli.specs.Answer.{IsAnswer, EndsAt, IsAnswered, IsTaken, synth_words};
+ghost use Rattle.lhg_plant.specs.Views.{plain_plant};
+ghost use Rattle.lhg_cli.specs.Answer.{IsAnswer, EndsAt, IsAnswered, IsTaken, IsWithin, synth_words};
+ghost use Rattle.lhg_cli.specs.PlantAnswer.{IsPlantAnswer};
 
 use crate::Status;
-use crate::answers::{bad_line, too_long, usage};
-use crate::still::report;
+use crate::answers::{bad_line, later, many_rows, too_long, usage, wide};
+use crate::input::read_input;
+use crate::pieces::report_of;
+use crate::safe::safe_region;
+use crate::still::is_still;
 use lhg_io::{INPUT_LIMIT, ReadAll, Sink, Source, read_all, write_all};
-use lhg_read::{SmallStop, read_small};
+use lhg_lex::ReadStop;
+use lhg_num::Halt;
+use lhg_plant::Plant;
 use std::alloc::{AllocError, Global};
 
 /// A status and its text.
@@ -26,27 +31,42 @@ fn is_synth(words: &[String]) -> bool
     words.len() == 1 && words[0].as_str() == "synth"
 }
 
+// The answer to a plant.
+fn solved(alloc: Global, plant: &Plant) -> Result<Answer, AllocError>
+    ensures { IfOk result (λ a. IsPlantAnswer (plain_plant plant.now) a.status a.text.items) }
+{
+    if !is_still(alloc, plant)? {
+        let text = later(alloc)?;
+        return Ok(Answer {
+            status: Status::Text,
+            text,
+        });
+    }
+    let (status, text) = match safe_region(alloc, plant) {
+        Ok(region) => (Status::Done, report_of(alloc, plant, &region)?),
+        Err(Halt::Wide) => (Status::Wide, wide(alloc)?),
+        Err(Halt::Rows) => (Status::Lists, many_rows(alloc)?),
+        Err(Halt::Pieces) => unreachable!(),
+        Err(Halt::Memory) => return Err(AllocError),
+    };
+    Ok(Answer { status, text })
+}
+
 // The answer to the bytes of an input within the limit.
 fn synth(alloc: Global, bytes: &[u8]) -> Result<Answer, AllocError>
     requires { length bytes.now ≤ INPUT_LIMIT }
     ensures { IfOk result (λ a. IsAnswer synth_words (Some bytes.now) a.status a.text.items) }
 {
-    match read_small(alloc, bytes) {
-        Ok(plant) => {
-            let text = report(alloc, &plant)?;
-            Ok(Answer {
-                status: Status::Done,
-                text,
-            })
-        }
-        Err(SmallStop::Later { line }) => {
-            let text = bad_line(alloc, line)?;
+    match read_input(alloc, bytes) {
+        Ok(plant) => solved(alloc, &plant),
+        Err(ReadStop::Bad { line, what, .. }) => {
+            let text = bad_line(alloc, line, what)?;
             Ok(Answer {
                 status: Status::Text,
                 text,
             })
         }
-        Err(SmallStop::Memory) => Err(AllocError),
+        Err(ReadStop::Memory) => Err(AllocError),
     }
 }
 
@@ -107,8 +127,9 @@ pub fn lhg<S: Source, K: Sink>(
     // an answer to the input was made of all of it, unless it is too long
     ensures ended { IsAnswered result → EndsAt (S.left source.old) (S.left source.new) result }
 
-    // where neither end fails, a text that is taken has its report, and any other is refused, unless memory runs out
-    ensures complete { map (λ w. string_bytes w) words.now ≡ synth_words → IfSome (S.left source.old) (λ bytes. IsTaken bytes
+    // where neither end fails, a plant in which nothing moves has its report, where the calculus stays within its limits, and
+    // any other input is refused, unless memory runs out
+    ensures complete { map (λ w. string_bytes w) words.now ≡ synth_words → IfSome (S.left source.old) (λ bytes. IsWithin bytes
         → ¬ Rose (S.faults source.old) (S.faults source.new) → ¬ Rose (K.faults sink.old) (K.faults sink.new) → (result ≡ Status.Done) ⊎ (result ≡ Status.Memory)) }
     ensures refused { map (λ w. string_bytes w) words.now ≡ synth_words → IfSome (S.left source.old) (λ bytes. ¬ IsTaken bytes
         → ¬ Rose (S.faults source.old) (S.faults source.new) → ¬ Rose (K.faults sink.old) (K.faults sink.new) → (result ≡ Status.Text) ⊎ (result ≡ Status.Memory)) }

@@ -1,5 +1,5 @@
 -- The value of a row at two points, one behind the other, is formed in two parts.
-use Rattle.std.proofs.Common.{◌≡◌, ◌+◌, ℕ, List, [], ◌∷◌, ◌++◌, length, map, take, drop, sym, ap, ◌∙◌, subst, arith, Result, Ok, Err}
+use Rattle.std.proofs.Common.{◌≡◌, ◌+◌, List, [], ◌∷◌, ◌++◌, length, map, take, drop, sym, ap, ◌∙◌, subst, arith, Result, Ok, Err}
 use Rattle.std.proofs.lemmas.List.{take-append-drop, map-append, length-map, length-take-le}
 use Rattle.lhg_math.specs.Number.{Number}
 use Rattle.lhg_num.specs.Arithmetic.{Arithmetic}

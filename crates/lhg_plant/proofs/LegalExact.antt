@@ -16,10 +16,10 @@ use Rattle.lhg_row.specs.SpeedLemmas.{speed_flow}
 use Rattle.lhg_row.specs.MarkedTests.{marked_all-value}
 use Rattle.lhg_row.specs.Truths.{piece_truth, piece_truth-value}
 use Rattle.lhg_row.specs.Values.{marked_value, fits_order, with_bound}
-use Rattle.lhg_row.specs.ValueLaws.{truth-value, scaled_row, holds-scaled}
+use Rattle.lhg_row.specs.ValueLaws.{truth-value, holds-scaled}
 use Rattle.lhg_plant.specs.Plant.{PlainLocation, PlainSwitch, PlainPlant}
 use Rattle.lhg_plant.specs.State.{PlainState, IsState}
-use Rattle.lhg_plant.specs.Legal.{LegalFlow, LegalSwitch, LegalSwitchTo}
+use Rattle.lhg_plant.specs.Legal.{LegalFlow, LegalSwitchTo}
 use Rattle.lhg_plant.specs.LegalTruths.{told_of, marked_change, flow_row_truth, flow_rows_truth, state_truth, flow_truth, legal_flow_truth, switch_truth, legal_switch_truth}
 use Rattle.lhg_plant.proofs.Options.{some_weaken}
 

@@ -39,10 +39,11 @@ module _ (n : ℕ) (x : PlainPoint) (fits : length x ≡ n) where
 pub safe_region_is : (a : PlainPlant) → IsProper a → (s : PlainState) → InRegion a (safe_region a).value s ↔ IsSafe a s
 unfolding safe_region
 safe_region_is a h s =
-    let e = each-value (safe_list (length a.vars)) a.locs in
-    (λ k.
-    let some = subst (λ r. InSome (get_or r s.loc []) s.at) e k.some in
-    record { state = k.state; safe = (same_there (length a.vars) s.at k.state.fits a.locs s.loc h.locs k.state.inside).0 some },
-    λ k.
-    let some = (same_there (length a.vars) s.at k.state.fits a.locs s.loc h.locs k.state.inside).1 k.safe in
-    record { state = k.state; some = subst (λ r. InSome (get_or r s.loc []) s.at) (sym e) some })
+    let e = each-value (safe_list (length a.vars)) a.locs in (
+      λ k.
+          let some = subst (λ r. InSome (get_or r s.loc []) s.at) e k.some in
+          record { state = k.state; safe = (same_there (length a.vars) s.at k.state.fits a.locs s.loc h.locs k.state.inside).0 some },
+      λ k.
+          let some = (same_there (length a.vars) s.at k.state.fits a.locs s.loc h.locs k.state.inside).1 k.safe in
+          record { state = k.state; some = subst (λ r. InSome (get_or r s.loc []) s.at) (sym e) some },
+    )

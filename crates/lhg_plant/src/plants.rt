@@ -1,6 +1,5 @@
 // Plants as values.
-ghost use Rattle.std.specs.Prelude.{map};
-ghost use Rattle.lhg_plant.specs.Parts.{plain_location, plain_switch};
+ghost use Rattle.lhg_plant.specs.Parts.{plain_parts};
 ghost use Rattle.lhg_plant.specs.Proper.{IsProper};
 ghost use Rattle.lhg_plant.specs.ProperOnce.{proper-prop};
 
@@ -47,5 +46,5 @@ pub struct Plant {
     pub vars: Vec<Name>,
     pub locs: Vec<Location>,
     pub switches: Vec<Switch>,
-    pub ghost proper: { IsProper (record { vars = vars.items; locs = map plain_location locs.items; switches = map plain_switch switches.items }) } by { proper-prop (record { vars = vars.items; locs = map plain_location locs.items; switches = map plain_switch switches.items }) },
+    pub ghost proper: { IsProper (plain_parts vars.items locs.items switches.items) } by { proper-prop (plain_parts vars.items locs.items switches.items) },
 }

@@ -11,7 +11,7 @@ mod projecting;
 #[cfg(test)]
 mod tests;
 
-pub use copies::{append_rows, copy_row, copy_rows};
+pub use copies::{copy_row, copy_rows};
 pub use entailing::{entails, includes};
 pub use making::make;
 pub use meeting::{are_apart, closure, meet};

@@ -1,19 +1,14 @@
 pub mod Answered
 pub mod AxisRows
-pub mod BadLines
 pub mod ChainSteps
 pub mod Collecting
 pub mod Cuts
-pub mod DigitRuns
 pub mod DraftSteps
-pub mod FirstLines
 pub mod HeadLines
 pub mod LexedLines
 pub mod LineRows
 pub mod LineTaken
 pub mod ListSteps
-pub mod NoText
-pub mod OneValue
 pub mod PairRows
 pub mod PairSteps
 pub mod PlantContinues
@@ -29,7 +24,6 @@ pub mod PlantTexts
 pub mod PointSteps
 pub mod RefusalSteps
 pub mod RestLines
-pub mod SmallProper
 pub mod SpelledLines
 pub mod StateLines
 pub mod StateReading

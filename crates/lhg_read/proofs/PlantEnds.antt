@@ -1,11 +1,11 @@
 -- Behind the text of a plant stand only blank lines.
-use Rattle.std.proofs.Common.{◌≡◌, ℕ, List, [], ◌∷◌, ◌++◌, map, refl, sym, ap, ◌∙◌, subst, Bool, true, Option, Some, None, Result, Ok, Err, append-nil}
+use Rattle.std.proofs.Common.{◌≡◌, ℕ, List, [], ◌∷◌, ◌++◌, map, refl, sym, ap, ◌∙◌, subst, true, Option, Some, None, Result, Ok, Err, append-nil}
 use Rattle.std.specs.List.{AllByRecursion}
 use Rattle.lhg_lex.specs.LineTokens.{Spot, Fault, tokens_of, IsBlankLine}
 use Rattle.lhg_plant.specs.Plant.{PlainPlant}
 use Rattle.lhg_read.specs.Options.{joined}
 use Rattle.lhg_read.specs.PlantText.{said_in, IsPlant, IsPlantText}
-use Rattle.lhg_read.specs.PlantSteps.{PlainDraft, all_taken, plant_with}
+use Rattle.lhg_read.specs.PlantSteps.{PlainDraft, all_taken}
 use Rattle.lhg_read.specs.PlantTextLaws.{PlantTextLaws}
 use Rattle.lhg_read.specs.TokenText.{token_line, token_lines}
 use Rattle.lhg_read.proofs.PlantRefusals as PlantRefusals

@@ -1,11 +1,11 @@
 -- A text has one value at most.
-use Rattle.std.proofs.Common.{◌≡◌, ℕ, List, [], ◌∷◌, map, sym, ap, ◌∙◌, subst, Some}
+use Rattle.std.proofs.Common.{◌≡◌, ℕ, List, [], ◌∷◌, map, sym, ap, ◌∙◌, subst}
 use Rattle.std.proofs.lemmas.Option.{same_Some}
 use Rattle.lhg_lex.specs.LineTokens.{Spot}
 use Rattle.lhg_plant.specs.Plant.{PlainPlant}
 use Rattle.lhg_plant.specs.State.{PlainState}
 use Rattle.lhg_read.specs.Names.{vars_of}
-use Rattle.lhg_read.specs.PlantText.{said_in, IsPlant, IsPlantText}
+use Rattle.lhg_read.specs.PlantText.{said_in, IsPlant}
 use Rattle.lhg_read.specs.PlantSteps.{empty_draft, all_taken, plant_with}
 use Rattle.lhg_read.specs.StateText.{state_line, IsStateText}
 use Rattle.lhg_read.specs.TextLaws.{TextLaws}

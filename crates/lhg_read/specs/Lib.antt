@@ -1,11 +1,9 @@
 pub mod Begun
 pub mod Collect
 pub mod Cut
-pub mod Digits
 pub mod DraftView
 pub mod HeadTest
 pub mod Keep
-pub mod Laws
 pub mod Lexed
 pub mod Names
 pub mod Options
@@ -16,13 +14,9 @@ pub mod PlantText
 pub mod PlantTextLaws
 pub mod PointText
 pub mod Refusals
-pub mod Refused
 pub mod Rest
 pub mod Rows
 pub mod Signs
-pub mod SmallPlant
-pub mod SmallText
-pub mod SmallValue
 pub mod StateText
 pub mod Sum
 pub mod Term

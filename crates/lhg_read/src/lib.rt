@@ -3,12 +3,10 @@
 
 mod axes;
 mod constraints;
-mod digits;
 mod draft;
 mod forms;
 mod heads;
 pub mod laws;
-mod lines;
 mod names;
 mod next_lines;
 mod operators;
@@ -21,15 +19,12 @@ mod refusal;
 mod rest;
 mod rows;
 mod signs;
-mod small;
 mod states;
-mod still_plant;
 mod sums;
 mod switches;
 mod terms;
 #[cfg(test)]
 mod tests;
-mod words;
 
 pub use axes::still_rows;
 pub use forms::Form;
@@ -37,5 +32,4 @@ pub use plant::read_plant;
 pub use points::read_point;
 pub use rest::finish;
 pub use rows::read_rows;
-pub use small::{SmallStop, read_small};
 pub use states::read_state;

@@ -8,18 +8,15 @@ use Rattle.lhg_row.specs.Piece.{PlainPiece}
 use Rattle.lhg_row.specs.Row.{PlainRow}
 use Rattle.lhg_row.specs.Width.{AllWide}
 use Rattle.lhg_text.specs.RowText.{next_term, next_terms, terms_text, term_text, operator_text, number_text, turned, leads_negative, row_text, row_text_by, next_rows, rows_text}
+use Rattle.lhg_text.proofs.RowTerms.{next_terms-nil}
 
 module _ (more : List (List ℕ)) where
-  no_next : (vs : List (List ℕ)) → next_terms vs [] ≡ []
-  no_next [] = refl
-  no_next (v ∷ vs) = refl
-
   no_terms : (vs : List (List ℕ)) → terms_text vs [] ≡ []
   no_terms [] = refl
   no_terms (v ∷ vs) = refl
 
   next_old : (vs : List (List ℕ)) (cs : List Number) → length cs ≤ length vs → next_terms (vs ++ more) cs ≡ next_terms vs cs
-  next_old [] [] h = no_next more
+  next_old [] [] h = next_terms-nil more
   next_old [] (c ∷ cs) h = absurd (omega arith)
   next_old (v ∷ vs) [] h = refl
   next_old (v ∷ vs) (c ∷ cs) h = ap (λ t. next_term c v ++ t) (next_old vs cs (omega arith))

@@ -56,6 +56,7 @@ not_before w before behind h =
 
 -- ---- the variables of a form
 
+-- a variable by its name
 abbrev pub axis : Bool → List ℕ → Axis
 axis primed w = record { name = w; primed = primed }
 
@@ -83,6 +84,7 @@ map-append : (xs ys : List Axis) → map axis_text (xs ++ ys) ≡ map axis_text 
 map-append [] ys = refl
 map-append (x ∷ xs) ys = ap (λ ws. axis_text x ∷ ws) (map-append xs ys)
 
+-- what the variables print as
 pub axes_names : (form : Form) (vars : List (List ℕ)) → map axis_text (axes_of form vars) ≡ names_of form vars
 axes_names Plain vars = old_names vars
 axes_names Flow vars = old_names vars

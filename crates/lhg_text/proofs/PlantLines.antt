@@ -38,6 +38,7 @@ use Rattle.lhg_text.proofs.TokenKinds.{word_token}
 
 -- ---- words
 
+-- the bytes are a word
 pub record IsWord (w : List ℕ) : Type 0 where
   pub word : is_word w ≡ true
 
@@ -132,6 +133,7 @@ module _ (vars : List (List ℕ)) (rows : PlainPiece) where
     reads = ap (option_map (λ s. block (safe s))) r.reads;
   }
 
+-- the line of the end
 pub end_line : (vars : List (List ℕ)) → IsLineOf vars (codes "end") end
 unfolding line_of
 end_line vars = record { first = word (codes "end"); others = []; says = word_says (codes "end") refl; reads = refl }
@@ -159,6 +161,7 @@ switch_read vars w tokens n f t h =
 abbrev written_line : List (List ℕ) → WrittenSwitch → List ℕ
 written_line vars w = spaced (codes "switch" ∷ w.name ∷ side_text w.side ∷ w.from ∷ w.to ∷ rows_text (jump_names vars) w.jump ∷ [])
 
+-- the line of a switch is that switch as it is written
 pub switch_is : (vars : List (List ℕ)) (w : WrittenSwitch) → AreNames vars → IsName w.name → IsName w.from → IsName w.to → AreRows Jump vars w.jump → IsLineOf vars (written_line vars w) (switch w)
 unfolding line_of
 switch_is vars w names n f t rows =

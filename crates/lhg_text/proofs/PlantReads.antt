@@ -1,5 +1,5 @@
 -- The text of a plant is a plant of the grammar, and its value is that plant.
-use Rattle.std.proofs.Common.{◌≡◌, ◌<◌, ◌≤◌, ℕ, zero, suc, List, [], ◌∷◌, ◌++◌, length, take, drop, get_or, map, refl, sym, ap, ◌∙◌, subst, true, false, ◌==◌, Option, Some, Ok, arith, codes, append_assoc}
+use Rattle.std.proofs.Common.{◌≡◌, ◌<◌, ◌≤◌, ℕ, zero, suc, List, [], ◌∷◌, ◌++◌, length, take, drop, get_or, map, refl, sym, ap, ◌∙◌, subst, true, false, ◌==◌, Some, Ok, arith, codes, append_assoc}
 use Rattle.std.specs.Prelude.{slice_get}
 use Rattle.std.specs.List.{list_all, list_any, flat_map}
 use Rattle.std.proofs.lemmas.Bool.{and_parts}
@@ -32,6 +32,7 @@ use Rattle.lhg_text.specs.Short.{AllShort, IsShortLocation, IsShortPlant}
 use Rattle.lhg_text.specs.PlantText.{line, spaced, location_name, location_lines, switch_line, plant_lines, plant_text}
 use Rattle.lhg_text.proofs.LineText.{is_inner, Says, says_space, says_token, line_says}
 use Rattle.lhg_text.proofs.Places.{place_at, not_before}
+use Rattle.lhg_text.proofs.RowReads.{cons_eq}
 use Rattle.lhg_text.proofs.TokenKinds.{word_token}
 use Rattle.lhg_text.proofs.PlantLines.{IsWord, word_says, AreNames, AreLinesOf, lines-append, block_of, location_is, switch_is, end_line, vars_read}
 
@@ -72,9 +73,6 @@ record AreTokens (vars : List (List ℕ)) (lines : List (List ℕ)) (values : Li
   say : map (λ l. line_of vars (said_in l)) tokens ≡ map (λ v. Some v) values
   inner : AllOf IsInner lines
 
-cons_both : (x y : Option PlantLine) (xs ys : List (Option PlantLine)) → x ≡ y → xs ≡ ys → (x ∷ xs) ≡ (y ∷ ys)
-cons_both x y xs ys h k = ap (λ z. z ∷ xs) h ∙ ap (λ zs. y ∷ zs) k
-
 lines_read : (vars : List (List ℕ)) (lines : List (List ℕ)) (values : List PlantLine) → AreLinesOf vars lines values → AreTokens vars lines values
 lines_read vars [] [] h = record { tokens = []; are = refl; say = refl; inner = tt }
 lines_read vars [] (v ∷ values) h = absurd h
@@ -85,7 +83,7 @@ lines_read vars (l ∷ lines) (v ∷ values) h =
     record {
       tokens = s.spots 0 ∷ more.tokens;
       are = token_lines-cons l lines h.0.first h.0.others more.tokens s more.are;
-      say = cons_both _ _ _ _ (ap (line_of vars) (s.says 0) ∙ h.0.reads) more.say;
+      say = cons_eq (ap (line_of vars) (s.says 0) ∙ h.0.reads) more.say;
       inner = (record { inner = s.inner }, more.inner);
     }
 

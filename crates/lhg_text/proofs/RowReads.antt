@@ -27,7 +27,7 @@ use Rattle.lhg_read.specs.declared.terms.Term.{Term}
 use Rattle.lhg_read.specs.declared.terms.Term.TheVariants.{Times, Alone}
 use Rattle.lhg_read.proofs.Collecting.{count-cons, same_eq}
 use Rattle.lhg_text.specs.RowText.{turned, leads_negative}
-use Rattle.lhg_text.proofs.Cutting.{all_fail, behind_part, behind_mark, cut-part, cut-mark, cut-all}
+use Rattle.lhg_text.proofs.Cutting.{all_fail, parted, cut-before, cut-marked}
 use Rattle.lhg_text.proofs.RowTerms.{is_nought-turned}
 use Rattle.lhg_text.proofs.RowTokens.{Axis, terms_tokens, operator_token, number_tokens, row_tokens_by, row_tokens}
 use Rattle.lhg_text.proofs.SumReads.{SparesSums, terms_spared, number_spared, terms_at, ArePlaced, terms_sum, number_sum}
@@ -58,7 +58,8 @@ factor_none i k (c ∷ cs) z h =
     (λ e. rw e more)
     (λ e. let o = other_place i k h in rw (e, o) more)
 
-cons_eq : {A : Type 0} {x y : A} {xs ys : List A} → x ≡ y → xs ≡ ys → (x ∷ xs) ≡ (y ∷ ys)
+-- equal members in front of equal lists
+pub cons_eq : {A : Type 0} {x y : A} {xs ys : List A} → x ≡ y → xs ≡ ys → (x ∷ xs) ≡ (y ∷ ys)
 cons_eq {A} {x} {y} {xs} {ys} h k = ap (λ z. z ∷ xs) h ∙ ap (λ zs. y ∷ zs) k
 
 -- one term more before, of another place
@@ -233,6 +234,7 @@ operator_passes true false = refl
 operator_passes false true = refl
 operator_passes false false = refl
 
+-- an operator is no word
 pub operator_no_word : (w : List ℕ) (flip strict : Bool) → is_word w (operator_token flip strict) ≡ false
 operator_no_word w true true = refl
 operator_no_word w true false = refl
@@ -246,15 +248,17 @@ no_one_word w [] o (x ∷ behind) h = refl
 no_one_word w (x ∷ []) o behind h = refl
 no_one_word w (x ∷ y ∷ before) o behind h = refl
 
-and_false : (x : Bool) → (x && false) ≡ false
+-- a test that fails
+pub and_false : (x : Bool) → (x && false) ≡ false
 and_false true = refl
 and_false false = refl
 
 row_cut : (flip strict : Bool) (terms tokens : List PlainToken) → all_fail is_operator terms ≡ true → all_fail is_operator tokens ≡ true
-    → cut is_operator (terms ++ (operator_token flip strict ∷ tokens)) ≡ record { first = terms ++ []; others = (operator_token flip strict, tokens) ∷ [] }
+    → cut is_operator (terms ++ (operator_token flip strict ∷ tokens)) ≡ parted terms ((operator_token flip strict, tokens) ∷ [])
 row_cut flip strict terms tokens h k =
     let o = operator_token flip strict in
-    cut-part is_operator terms (o ∷ tokens) h ∙ ap (behind_part terms) (cut-mark is_operator o tokens (operator_passes flip strict) ∙ ap (behind_mark o) (cut-all is_operator tokens k))
+    let behind = cut-marked is_operator o tokens [] [] (operator_passes flip strict) k refl in
+    cut-before is_operator terms (o ∷ tokens) ((o, tokens) ∷ []) h (ap (λ ts. cut is_operator (o ∷ ts)) (sym (append-nil tokens)) ∙ behind)
 
 -- a row over the variables of a form, with a coefficient that is not zero
 pub record IsRowOf (form : Form) (vars : List (List ℕ)) (r : PlainRow) : Type 0 where
@@ -287,7 +291,7 @@ module _ (form : Form) (vars : List (List ℕ)) (axes : List Axis) (placed : Are
       let o = operator_token flip r.strict in
       let k = no_one_word (codes "keep") terms o number (operator_no_word (codes "keep") flip r.strict) in
       let c = row_cut flip r.strict terms number (terms_spared is_operator axes (map (turned flip) r.coefs) no_operator) (number_spared is_operator (turned flip r.bound) no_operator) in
-      rw (k, and_false (is_jump form), c, append-nil terms) (pair_by flip r above wide)
+      rw (k, and_false (is_jump form), c) (pair_by flip r above wide)
 
   -- the tokens of a printed row are a constraint whose one row is this
   pub constraint_reads : (r : PlainRow) → IsRowOf form vars r → constraint_of form vars (row_tokens axes r) ≡ Some (r ∷ [])

@@ -19,6 +19,11 @@ use Rattle.lhg_text.specs.RowText.{terms_from, terms_text, next_term, next_terms
 name_from : (vs : List (List ℕ)) (i : ℕ) → i < length vs → drop i vs ≡ get_or vs i [] ∷ drop (i + 1) vs
 name_from vs i there = drop-cons vs i [] there ∙ ap (λ k. get_or vs i [] ∷ drop k vs) (sym (add-one i))
 
+-- no coefficients give no terms
+pub next_terms-nil : (vs : List (List ℕ)) → next_terms vs [] ≡ []
+next_terms-nil [] = refl
+next_terms-nil (v ∷ vs) = refl
+
 module _ (f : Number → Number) (vs : List (List ℕ)) (cs : List Number) where
   -- the coefficient c at a place behind the first, and those behind it
   pub next_terms-from : (i : ℕ) (c x : Number) → i < length vs → i < length cs → c ≡ get_or cs i c → x ≡ f c
@@ -30,11 +35,7 @@ module _ (f : Number → Number) (vs : List (List ℕ)) (cs : List Number) where
 
   -- past the last place there are none
   pub next_terms-past : (i : ℕ) → length cs ≤ i → next_terms (drop i vs) (map f (drop i cs)) ≡ []
-  next_terms-past i h = ap (λ ds. next_terms (drop i vs) (map f ds)) (drop_of_length-le cs h) ∙ none (drop i vs)
-    where
-      none : (ws : List (List ℕ)) → next_terms ws [] ≡ []
-      none [] = refl
-      none (w ∷ ws) = refl
+  next_terms-past i h = ap (λ ds. next_terms (drop i vs) (map f ds)) (drop_of_length-le cs h) ∙ next_terms-nil (drop i vs)
 
   terms_from-drop : (k : ℕ) (us : List (List ℕ)) (ds : List Number) → terms_from k us ds ≡ terms_from zero (drop k us) (drop k ds)
   terms_from-drop zero us ds = refl
@@ -137,5 +138,6 @@ none_at false n e = refl
 pub found_place : (cs : List Number) (k : ℕ) → Some k ≡ position (λ c. not (is_nought c)) cs → (place_of cs < length cs) × (place_of cs ≡ k)
 found_place cs k e = let s = some_at _ _ _ e in (let below : place_of cs < length cs = grind (arith, nat_tests, s.0) in below, s.1)
 
+-- where a search finds none, all coefficients are 0
 pub no_place : (cs : List Number) → None ≡ position (λ c. not (is_nought c)) cs → length cs ≤ place_of cs
 no_place cs e = let t = none_at _ _ e in grind (arith, nat_tests, t)

@@ -34,9 +34,11 @@ pub record Axis : Type 0 where
   pub name : List ℕ
   pub primed : Bool
 
+-- the variable as it is printed
 abbrev pub axis_text : Axis → List ℕ
 axis_text a = if a.primed then a.name ++ codes "'" else a.name
 
+-- the same as tokens
 abbrev pub axis_tokens : Axis → List PlainToken
 axis_tokens a = if a.primed then word a.name ∷ sign 39 ∷ [] else word a.name ∷ []
 
@@ -54,14 +56,17 @@ axis_says a rest tokens h f = axis_by a.name a.primed rest tokens h.name f
 
 -- ---- terms
 
+-- the tokens of a term without its sign
 abbrev pub term_tokens : Number → Axis → List PlainToken
 term_tokens c a = if (unsigned_abs c.top == 1) && (c.bottom == 1) then axis_tokens a else number (magnitude c) ∷ sign 42 ∷ axis_tokens a
 
+-- the tokens of the terms behind the first, each with its sign in front
 abbrev pub next_tokens : List Axis → List Number → List PlainToken
 next_tokens [] cs = []
 next_tokens (a ∷ axes) [] = []
 next_tokens (a ∷ axes) (c ∷ cs) = if is_nought c then next_tokens axes cs else sign (if lt c nought then 45 else 43) ∷ (term_tokens c a ++ next_tokens axes cs)
 
+-- the tokens of the terms
 abbrev pub terms_tokens : List Axis → List Number → List PlainToken
 terms_tokens [] cs = []
 terms_tokens (a ∷ axes) [] = []
@@ -124,6 +129,7 @@ terms_say (a ∷ axes) (c ∷ cs) rest tokens named short f =
 
 -- ---- rows
 
+-- the tokens of a number
 abbrev pub number_tokens : Number → List PlainToken
 number_tokens x = if lt x nought then sign 45 ∷ number (magnitude x) ∷ [] else number (magnitude x) ∷ []
 
@@ -135,6 +141,7 @@ number_by false x rest tokens short f = says_token (size_text x) rest (number (m
 number_says : (x : Number) (rest : List ℕ) (tokens : List PlainToken) → IsShort x → Follows rest tokens → Says (number_text x ++ rest) (number_tokens x ++ tokens)
 number_says x rest tokens short f = says_as (append_assoc (if lt x nought then codes "-" else []) (size_text x) rest) (number_by (lt x nought) x rest tokens short f)
 
+-- the token of an operator, turned round where the row was negated
 abbrev pub operator_token : Bool → Bool → PlainToken
 operator_token true true = sign 62
 operator_token true false = two_signs 62 61
@@ -156,9 +163,11 @@ all_turned : (flip : Bool) (xs : List Number) → AllOf IsShort xs → AllOf IsS
 all_turned flip [] h = tt
 all_turned flip (x ∷ xs) h = (short_turned flip x h.0, all_turned flip xs h.1)
 
+-- the tokens of a row, negated where the flag says so
 abbrev pub row_tokens_by : Bool → List Axis → PlainRow → List PlainToken
 row_tokens_by flip axes r = terms_tokens axes (map (turned flip) r.coefs) ++ (operator_token flip r.strict ∷ number_tokens (turned flip r.bound))
 
+-- the tokens of a row
 abbrev pub row_tokens : List Axis → PlainRow → List PlainToken
 row_tokens axes r = row_tokens_by (leads_negative r) axes r
 
@@ -183,10 +192,12 @@ row_says axes r rest tokens named short f = row_by (leads_negative r) axes r res
 
 -- ---- lists of rows
 
+-- the tokens of the rows behind the first, each with its comma in front
 abbrev pub next_rows_tokens : List Axis → PlainPiece → List PlainToken
 next_rows_tokens axes [] = []
 next_rows_tokens axes (r ∷ rs) = sign 44 ∷ (row_tokens axes r ++ next_rows_tokens axes rs)
 
+-- the tokens of a list of rows
 abbrev pub rows_tokens : List Axis → PlainPiece → List PlainToken
 rows_tokens axes [] = word (codes "all") ∷ []
 rows_tokens axes (r ∷ rs) = row_tokens axes r ++ next_rows_tokens axes rs

@@ -1,5 +1,5 @@
 -- Which rows do the tokens of a printed list of rows give?
-use Rattle.std.proofs.Common.{◌≡◌, ◌≤◌, ℕ, List, [], ◌∷◌, ◌++◌, length, map, refl, ap, ◌∙◌, Bool, true, false, not, ◌&&◌, Some, arith, append_assoc, append-nil, codes, nat_le}
+use Rattle.std.proofs.Common.{◌≡◌, ◌≤◌, ℕ, List, [], ◌∷◌, ◌++◌, length, map, refl, ap, ◌∙◌, Bool, true, false, not, Some, arith, append_assoc, codes, nat_le}
 use Rattle.std.specs.Option.{option_and_then}
 use Rattle.std.proofs.lemmas.Bool.Decides.{nat_tests}
 use Rattle.std.proofs.lemmas.List.Folds.{list_all-append}
@@ -8,13 +8,13 @@ use Rattle.lhg_row.specs.Members.{AllOf}
 use Rattle.lhg_row.specs.Piece.{PlainPiece}
 use Rattle.lhg_row.specs.Row.{PlainRow}
 use Rattle.lhg_plant.specs.Limits.{most_line_rows}
-use Rattle.lhg_read.specs.Cut.{Cut, cut, parts_of}
+use Rattle.lhg_read.specs.Cut.{cut, parts_of}
 use Rattle.lhg_read.specs.Rows.{is_flow, constraints_of, within_limit, list_of, rows_of}
 use Rattle.lhg_read.specs.Signs.{is_one_word, is_comma}
 use Rattle.lhg_read.specs.declared.forms.Form.{Form}
 use Rattle.lhg_text.specs.RowText.{turned, leads_negative}
-use Rattle.lhg_text.proofs.Cutting.{all_fail, behind_part, behind_mark, cut-part, cut-mark}
-use Rattle.lhg_text.proofs.RowReads.{IsRowOf, AreAxes, constraint_reads, no_one_word, operator_no_word}
+use Rattle.lhg_text.proofs.Cutting.{all_fail, parted, cut-before, cut-marked}
+use Rattle.lhg_text.proofs.RowReads.{IsRowOf, AreAxes, constraint_reads, no_one_word, operator_no_word, and_false}
 use Rattle.lhg_text.proofs.RowTokens.{Axis, terms_tokens, operator_token, number_tokens, row_tokens_by, row_tokens, next_rows_tokens, rows_tokens}
 use Rattle.lhg_text.proofs.SumReads.{SparesSums, terms_spared, number_spared}
 
@@ -43,18 +43,9 @@ abbrev next_parts : List Axis → PlainPiece → List (PlainToken × List PlainT
 next_parts axes [] = []
 next_parts axes (r ∷ rs) = (sign 44, row_tokens axes r) ∷ next_parts axes rs
 
--- tokens that are cut at commas
-abbrev parted : List PlainToken → List (PlainToken × List PlainToken) → Cut PlainToken
-parted first others = record { first = first; others = others }
-
-first_cut : (axes : List Axis) (r : PlainRow) (more : List PlainToken) (others : List (PlainToken × List PlainToken)) → cut is_comma more ≡ parted [] others → cut is_comma (row_tokens axes r ++ more) ≡ parted (row_tokens axes r) others
-first_cut axes r more others h =
-    cut-part is_comma (row_tokens axes r) more (row_spared (leads_negative r) axes r) ∙ ap (behind_part (row_tokens axes r)) h ∙ ap (λ part. parted part others) (append-nil (row_tokens axes r))
-
 next_cut : (axes : List Axis) (rows : PlainPiece) → cut is_comma (next_rows_tokens axes rows) ≡ parted [] (next_parts axes rows)
 next_cut axes [] = refl
-next_cut axes (r ∷ rs) =
-    cut-mark is_comma (sign 44) (row_tokens axes r ++ next_rows_tokens axes rs) refl ∙ ap (behind_mark (sign 44)) (first_cut axes r (next_rows_tokens axes rs) (next_parts axes rs) (next_cut axes rs))
+next_cut axes (r ∷ rs) = cut-marked is_comma (sign 44) (row_tokens axes r) (next_rows_tokens axes rs) (next_parts axes rs) refl (row_spared (leads_negative r) axes r) (next_cut axes rs)
 
 -- ---- the rows
 
@@ -71,7 +62,7 @@ module _ (form : Form) (vars : List (List ℕ)) (axes : List Axis) (placed : Are
       let c = constraint_reads form vars axes placed r h.0 in
       let m = next_read rs h.1 in
       let f = few (r ∷ rs) few_rows in
-      ap (λ k. option_and_then within_limit (constraints_of form vars (parts_of k))) (first_cut axes r (next_rows_tokens axes rs) (next_parts axes rs) (next_cut axes rs)) ∙ rw (c, m) f
+      ap (λ k. option_and_then within_limit (constraints_of form vars (parts_of k))) (cut-before is_comma (row_tokens axes r) (next_rows_tokens axes rs) (next_parts axes rs) (row_spared (leads_negative r) axes r) (next_cut axes rs)) ∙ rw (c, m) f
 
   no_word_by : (w : List ℕ) (flip : Bool) (r : PlainRow) (more : List PlainToken) → is_one_word w (row_tokens_by flip axes r ++ more) ≡ false
   no_word_by w flip r more =
@@ -79,10 +70,6 @@ module _ (form : Form) (vars : List (List ℕ)) (axes : List Axis) (placed : Are
       let number = number_tokens (turned flip r.bound) in
       let o = operator_token flip r.strict in
       ap (is_one_word w) (append_assoc terms (o ∷ number) more) ∙ no_one_word w terms o (number ++ more) (operator_no_word w flip r.strict)
-
-  and_false : (x : Bool) → (x && false) ≡ false
-  and_false true = refl
-  and_false false = refl
 
   -- the tokens of a printed list of rows are read as these rows
   pub rows_read : (rows : PlainPiece) → AllOf (IsRowOf form vars) rows → length rows ≤ most_line_rows → rows_of form vars (rows_tokens axes rows) ≡ Some rows

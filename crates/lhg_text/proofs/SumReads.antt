@@ -1,5 +1,5 @@
 -- Which terms do the tokens of a printed row say?
-use Rattle.std.proofs.Common.{◌≡◌, ◌+◌, ℕ, List, [], ◌∷◌, ◌++◌, length, refl, sym, ap, ◌∙◌, Bool, true, false, not, ◌==◌, ◌&&◌, if◌then◌else◌, Some, arith, append-nil, eqb-true}
+use Rattle.std.proofs.Common.{◌≡◌, ◌+◌, ℕ, List, [], ◌∷◌, ◌++◌, length, refl, sym, ap, ◌∙◌, Bool, true, false, not, ◌==◌, ◌&&◌, if◌then◌else◌, Some, arith, eqb-true}
 use Rattle.std.specs.Int.RustNames.{unsigned_abs}
 use Rattle.std.specs.Option.{option_map}
 use Rattle.std.proofs.lemmas.Bool.{and_parts, true≢false}
@@ -11,14 +11,14 @@ use Rattle.lhg_math.specs.Signs.{is_nought, lead}
 use Rattle.lhg_math.specs.SignLaws.{is_nought-positive}
 use Rattle.lhg_math.specs.Tests.{by_bool}
 use Rattle.lhg_lex.specs.PlainToken.{PlainToken, word, number, sign}
-use Rattle.lhg_read.specs.Cut.{Cut, cut}
+use Rattle.lhg_read.specs.Cut.{cut}
 use Rattle.lhg_read.specs.Signs.{is_minus, is_plus_or_minus}
 use Rattle.lhg_read.specs.Sum.{signed, terms_behind, terms_from, begins_with_minus, sum_of}
 use Rattle.lhg_read.specs.Term.{term_of, variable_of}
 use Rattle.lhg_read.specs.declared.forms.Form.{Form}
 use Rattle.lhg_read.specs.declared.terms.Term.{Term}
 use Rattle.lhg_read.specs.declared.terms.Term.TheVariants.{Times, Alone}
-use Rattle.lhg_text.proofs.Cutting.{all_fail, behind_part, behind_mark, cut-part, cut-mark}
+use Rattle.lhg_text.proofs.Cutting.{all_fail, parted, cut-before, cut-marked}
 use Rattle.lhg_text.proofs.Magnitudes.{magnitude_else, magnitude_negative, magnitude_some}
 use Rattle.lhg_text.proofs.NumberTokens.{magnitude}
 use Rattle.lhg_text.proofs.RowTokens.{Axis, axis_tokens, term_tokens, next_tokens, terms_tokens, number_tokens}
@@ -108,22 +108,13 @@ sign_passes : (negative : Bool) → is_plus_or_minus (sign (if negative then 45 
 sign_passes true = refl
 sign_passes false = refl
 
--- a sum in two parts, the second of which is cut
-abbrev parted : List PlainToken → List (PlainToken × List PlainToken) → Cut PlainToken
-parted first others = record { first = first; others = others }
-
-first_cut : (c : Number) (a : Axis) (more : List PlainToken) (others : List (PlainToken × List PlainToken)) → cut is_plus_or_minus more ≡ parted [] others → cut is_plus_or_minus (term_tokens c a ++ more) ≡ parted (term_tokens c a) others
-first_cut c a more others h =
-    cut-part is_plus_or_minus (term_tokens c a) more (term_spared is_plus_or_minus c a signs_spare) ∙ ap (behind_part (term_tokens c a)) h ∙ ap (λ part. parted part others) (append-nil (term_tokens c a))
-
 next_cut : (axes : List Axis) (cs : List Number) → cut is_plus_or_minus (next_tokens axes cs) ≡ parted [] (next_parts axes cs)
 next_cut [] cs = refl
 next_cut (a ∷ axes) [] = refl
 next_cut (a ∷ axes) (c ∷ cs) =
     by_bool (is_nought c)
     (λ e. rw e (next_cut axes cs))
-    (λ e. let s = sign (if lt c nought then 45 else 43) in
-    rw e (cut-mark is_plus_or_minus s (term_tokens c a ++ next_tokens axes cs) (sign_passes (lt c nought)) ∙ ap (behind_mark s) (first_cut c a (next_tokens axes cs) (next_parts axes cs) (next_cut axes cs))))
+    (λ e. rw e (cut-marked is_plus_or_minus (sign (if lt c nought then 45 else 43)) (term_tokens c a) (next_tokens axes cs) (next_parts axes cs) (sign_passes (lt c nought)) (term_spared is_plus_or_minus c a signs_spare) (next_cut axes cs)))
 
 module _ (form : Form) (vars : List (List ℕ)) where
   axis_term : (w : List ℕ) (primed : Bool) (k : ℕ) → variable_of form vars (axis_tokens (record { name = w; primed = primed })) ≡ Some k → term_of form vars (axis_tokens (record { name = w; primed = primed })) ≡ Some (Times unit k)
@@ -174,7 +165,7 @@ module _ (form : Form) (vars : List (List ℕ)) where
       let t = term_reads c a k (is_nought-positive c above) here in
       let b = next_read axes cs (k + 1) same at in
       let e = magnitude_else c (lt_asym nought c above) in
-      rw m (ap (terms_from form vars false) (first_cut c a (next_tokens axes cs) (next_parts axes cs) (next_cut axes cs)) ∙ rw (t, b) (ap (λ q. Some (Times q k ∷ terms_at (k + 1) cs)) e))
+      rw m (ap (terms_from form vars false) (cut-before is_plus_or_minus (term_tokens c a) (next_tokens axes cs) (next_parts axes cs) (term_spared is_plus_or_minus c a signs_spare) (next_cut axes cs)) ∙ rw (t, b) (ap (λ q. Some (Times q k ∷ terms_at (k + 1) cs)) e))
 
   -- the terms of a row whose leading coefficient is positive
   pub terms_sum : (axes : List Axis) (cs : List Number) (k : ℕ) → lt nought (lead cs) ≡ true → length axes ≡ length cs → ArePlaced form vars k axes → sum_of form vars (terms_tokens axes cs) ≡ Some (terms_at k cs)

@@ -1,9 +1,9 @@
--- The text of a plant.
+-- How is a plant printed?
 use Rattle.std.specs.Prelude.{ℕ, List, [], ◌∷◌, ◌++◌, codes, map, Option, Some, None, slice_get}
 use Rattle.std.specs.List.{flat_map, join_with_byte}
+use Rattle.lhg_row.specs.Piece.{PlainPiece}
 use Rattle.lhg_plant.specs.declared.plants.Side.{Side}
 use Rattle.lhg_plant.specs.declared.plants.Side.TheVariants.{Ctl, Env}
-use Rattle.lhg_row.specs.Piece.{PlainPiece}
 use Rattle.lhg_plant.specs.Plant.{PlainLocation, PlainSwitch, PlainPlant}
 use Rattle.lhg_text.specs.RowText.{rows_text, jump_names}
 

@@ -18,6 +18,7 @@ pub record IsShortRow (r : PlainRow) : Type 0 where
   pub coefs : AllOf IsShort r.coefs
   pub bound : IsShort r.bound
 
+-- and those of each row
 abbrev pub AllShort : PlainPiece → Type 0
 AllShort rows = AllOf IsShortRow rows
 

@@ -5,6 +5,7 @@ use Rattle.lhg_math.specs.Number.{ratio, ratio_suc, add, mul, neg, lt, nought, u
 use Rattle.lhg_math.specs.Gcd.{gcd}
 use Rattle.lhg_text.specs.RowText.{row_text, rows_text}
 
+-- a few rows and a list of none
 pub record RowExamples : Type 0 where
   pub at_least : row_text (codes "x" ∷ []) (record { coefs = ratio (negsuc 0) 1 ∷ []; strict = false; bound = ratio (negsuc 17) 1 }) ≡ codes "x >= 18"
   pub strict : row_text (codes "x" ∷ []) (record { coefs = ratio (pos 1) 1 ∷ []; strict = true; bound = ratio (pos 7) 2 }) ≡ codes "x < 7/2"
@@ -12,6 +13,7 @@ pub record RowExamples : Type 0 where
   pub behind : row_text (codes "x" ∷ codes "y" ∷ []) (record { coefs = ratio (pos 0) 1 ∷ ratio (negsuc 2) 1 ∷ []; strict = false; bound = ratio (pos 0) 1 }) ≡ codes "3*y >= 0"
   pub none : rows_text (codes "x" ∷ []) [] ≡ codes "all"
 
+-- they print so
 pub row_examples : RowExamples
 unfolding digits ratio ratio_suc gcd add mul neg lt nought unit whole
 row_examples = record { at_least = refl; strict = refl; terms = refl; behind = refl; none = refl }

@@ -9,6 +9,5 @@ mod terms;
 #[cfg(test)]
 mod tests;
 
-pub use numbers::push_number;
 pub use plants::print_plant;
-pub use rows::{push_jump_rows, push_rows};
+pub use rows::push_rows;

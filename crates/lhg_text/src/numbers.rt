@@ -42,7 +42,7 @@ pub(crate) fn push_size(text: &mut Vec<u8>, x: &Frac) -> Result<(), AllocError>
 }
 
 /// Appends a number, as a whole number or a fraction.
-pub fn push_number(text: &mut Vec<u8>, x: &Frac) -> Result<(), AllocError>
+pub(crate) fn push_number(text: &mut Vec<u8>, x: &Frac) -> Result<(), AllocError>
     ensures text { OnOk result (text.new.items ≡ text.old.items ++ number_text x.now) }
     ensures short { OnOk result (IsShort x.now) }
 {

@@ -115,7 +115,7 @@ pub fn push_rows(text: &mut Vec<u8>, vars: &[Name], rows: &[Row<Frac>]) -> Resul
 }
 
 /// Appends a list of rows over the old variables and then the new ones.
-pub fn push_jump_rows(
+pub(crate) fn push_jump_rows(
     text: &mut Vec<u8>,
     vars: &[Name],
     rows: &[Row<Frac>],

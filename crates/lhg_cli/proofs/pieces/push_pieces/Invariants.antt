@@ -1,7 +1,7 @@
 use Rattle.std.proofs.Common.{◌≡◌, ◌++◌, drop, codes}
-use Rattle.lhg_cli.specs.Pieces.{plain_pieces}
+use Rattle.lhg_union.specs.PolyLists.{lines_of}
 use Rattle.lhg_cli.specs.ReportText.{piece_lines}
 use Rattle.lhg_cli.proofs.pieces.push_pieces.Given as goal
 
-abbrev pub invariant-loop-i : goal.invariant-loop-i
-invariant-loop-i l = l.text.items ++ piece_lines (codes "piece " ++ l.location) l.vars (plain_pieces (drop l.i l.pieces)) ≡ l.fn.text.items ++ piece_lines (codes "piece " ++ l.location) l.vars (plain_pieces l.pieces)
+abbrev pub invariant-loop-piece : goal.invariant-loop-piece
+invariant-loop-piece l = l.text.items ++ piece_lines (codes "piece " ++ l.location) l.vars (lines_of (drop l.piece-index l.pieces)) ≡ l.fn.text.items ++ piece_lines (codes "piece " ++ l.location) l.vars (lines_of l.pieces)

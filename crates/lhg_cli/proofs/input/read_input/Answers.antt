@@ -1,0 +1,25 @@
+use Rattle.std.proofs.Common.{subst}
+use Rattle.std.proofs.lemmas.Result.{err_from_is_err_and}
+use Rattle.lhg_plant.specs.Views.{plain_plant}
+use Rattle.lhg_read.specs.PlantText.{IsPlant, IsSomePlant}
+use Rattle.lhg_read.specs.TokenText.{IsTextBy, ReadsText, HasCause}
+use Rattle.lhg_cli.proofs.WholeInput.{plant_refused, plant_ends, surplus_refused}
+use Rattle.lhg_cli.proofs.input.read_input.Goals as goal
+
+pub returns-in_err-plant-clause-err : goal.returns-in_err-plant-clause-err
+returns-in_err-plant-clause-err c =
+    let p = err_from_is_err_and c.from_residual.result c.from_residual.ensures.1 in
+    rw (p.1, p.2) (plant_refused c.args.bytes.now c.in_err-plant.field-0.0 (subst (λ s. HasCause (IsTextBy IsSomePlant) s c.in_err-plant.field-0.0) c.new-lines.ensures c.in_err-plant.ensures.err))
+
+pub returns-in_err-finish-clause-err : goal.returns-in_err-finish-clause-err
+returns-in_err-finish-clause-err c =
+    let p = err_from_is_err_and c.from_residual-in_err-finish.result c.from_residual-in_err-finish.ensures.1 in
+    let a = plain_plant c.in_ok-plant.plant in
+    let reads = subst (λ s. ReadsText (λ tokens. IsPlant tokens a) s c.read_plant.new.lines) c.new-lines.ensures c.in_ok-plant.ensures.ok in
+    rw (p.1, p.2) (surplus_refused c.args.bytes.now a c.read_plant.new.lines reads c.in_err-finish.field-0.0 c.in_err-finish.ensures.err)
+
+pub returns-clause-ok : goal.returns-clause-ok
+returns-clause-ok c =
+    let a = plain_plant c.in_ok-plant.plant in
+    let reads = subst (λ s. ReadsText (λ tokens. IsPlant tokens a) s c.read_plant.new.lines) c.new-lines.ensures c.in_ok-plant.ensures.ok in
+    plant_ends c.args.bytes.now a c.read_plant.new.lines reads c.in_ok-finish.ensures.ok
