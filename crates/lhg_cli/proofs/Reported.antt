@@ -1,5 +1,5 @@
 -- The report of the safe region of a plant in which nothing moves, and what a halt says.
-use Rattle.std.proofs.Common.{◌≡◌, ℕ, List, [], true, Err, ap, ◌∙◌, subst, arith}
+use Rattle.std.proofs.Common.{◌≡◌, ℕ, List, [], true, Err, refl, ap, ◌∙◌, subst, arith}
 use Rattle.lhg_num.specs.Halting.{IsHaltedByRows}
 use Rattle.lhg_num.specs.Marked.{Marked}
 use Rattle.lhg_num.specs.declared.refusals.Halt.{Halt}
@@ -10,21 +10,22 @@ use Rattle.lhg_plant.specs.Region.{PlainRegion}
 use Rattle.lhg_plant.specs.SafeRegion.{safe_region}
 use Rattle.lhg_plant.proofs.SafeStates.{safe_region_is}
 use Rattle.lhg_plant.proofs.Solutions.{still_solves}
-use Rattle.lhg_cli.specs.PlantAnswer.{IsTakenPlant, IsReport, calculus_report}
+use Rattle.lhg_cli.specs.PlantAnswer.{IsTakenPlant, IsReport, calculus_controller}
 use Rattle.lhg_cli.specs.ReportText.{report_text}
 
 pub reported : (a : PlainPlant) (region : PlainRegion) (text : List ℕ) → IsProper a → IsTakenPlant a → region ≡ (safe_region a).value → text ≡ report_text a 1 (record { region = region; guards = [] }) [] → IsReport a text
 reported a region text proper taken is printed =
-    let determined : text ≡ calculus_report a = printed ∙ ap (λ r. report_text a 1 (record { region = r; guards = [] }) []) is in
     record {
       taken = taken;
-      controller = record { region = (safe_region a).value; guards = [] };
+      controller = calculus_controller a;
       rounds = 1;
       losses = [];
       solved = still_solves a taken.0 taken.1 (safe_region a).value [] (safe_region_is a proper);
       within = omega arith;
-      printed = determined;
-      determined = determined;
+      printed = printed ∙ ap (λ r. report_text a 1 (record { region = r; guards = [] }) []) is;
+      controller_is = refl;
+      rounds_are = refl;
+      losses_are = refl;
     }
 
 -- a halt for a number, and one for a list of rows

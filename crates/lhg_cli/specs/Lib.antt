@@ -1,4 +1,5 @@
 pub mod Answer
+pub mod Numbers
 pub mod PlantAnswer
 pub mod Refusal
 pub mod ReportText

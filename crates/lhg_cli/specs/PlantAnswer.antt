@@ -15,11 +15,12 @@ use Rattle.lhg_cli.specs.declared.status.Status.TheVariants as status
 abbrev pub IsTakenPlant : PlainPlant → Type 0
 IsTakenPlant a = IsStill a × HasNoSwitch a
 
--- the report that the calculus gives: the safe region after one round, without guards and records
-abbrev pub calculus_report : PlainPlant → List ℕ
-calculus_report a = report_text a 1 (record { region = (safe_region a).value; guards = [] }) []
+-- the controller that the calculus gives: the safe region, without guards
+abbrev pub calculus_controller : PlainPlant → PlainController
+calculus_controller a = record { region = (safe_region a).value; guards = [] }
 
--- the text is the report of what solves the game of the plant, in at most 64 rounds, and it is that of the calculus
+-- the text is the report of what solves the game of the plant, in at most 64 rounds; region, guards, rounds and records are those of
+-- the calculus: the safe states after one round that removes nothing
 pub record IsReport (a : PlainPlant) (text : List ℕ) : Type 0 where
   pub taken : IsTakenPlant a
   pub controller : PlainController
@@ -28,7 +29,9 @@ pub record IsReport (a : PlainPlant) (text : List ℕ) : Type 0 where
   pub solved : IsSolution a controller rounds losses
   pub within : rounds ≤ 64
   pub printed : text ≡ report_text a rounds controller losses
-  pub determined : text ≡ calculus_report a
+  pub controller_is : controller ≡ calculus_controller a
+  pub rounds_are : rounds ≡ 1
+  pub losses_are : losses ≡ []
 
 -- something moves in the plant, and the answer says that such plants come later
 pub record IsLater (a : PlainPlant) (text : List ℕ) : Type 0 where

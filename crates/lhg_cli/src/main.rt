@@ -19,14 +19,14 @@ pub use top::lhg;
 
 fn main(rt: HostRuntime) -> ExitCode {
     let Ok(args) = env::args(&rt) else {
-        return ExitCode::from(Status::Words as u8);
+        return ExitCode::from(Status::Words.number());
     };
     let Ok(words) = args.skip(1).collect(rt.alloc()) else {
-        return ExitCode::from(Status::Memory as u8);
+        return ExitCode::from(Status::Memory.number());
     };
     let words: Vec<String> = words;
     let mut source = StdSource::new(rt.reader());
     let mut sink = StdSink::new(io::writer(&rt));
     let status = lhg(rt.alloc(), words.as_slice(), &mut source, &mut sink);
-    ExitCode::from(status as u8)
+    ExitCode::from(status.number())
 }

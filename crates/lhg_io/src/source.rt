@@ -63,6 +63,8 @@ pub fn read_all<S: Source>(alloc: Global, src: &mut S, limit: usize) -> Result<V
 
     // a fault only where the count rose, and always where it is greater
     ensures fault { result ≡ Err ReadAll.Fault → Rose (S.faults src.old) (S.faults src.new) }
+    // and before the limit is passed
+    ensures before { result ≡ Err ReadAll.Fault → (taken : List ℕ) × Consumes (S.left src.old) (S.left src.new) taken × (length taken ≤ limit) }
     ensures risen { S.faults src.old < S.faults src.new → result ≡ Err ReadAll.Fault }
     ensures kept { result ≢ Err ReadAll.Fault → S.faults src.new ≡ S.faults src.old }
     ensures never_falls { S.faults src.old ≤ S.faults src.new }

@@ -2,7 +2,7 @@
 //
 // A point of p that is not one of q fails some row of q; take the first such row. So what is left of p falls apart into, for
 // each row of q, the points of p at which the rows before it hold and it does not. Where p and q have no common point, p is left.
-ghost use Rattle.std.specs.Prelude.{◌≡◌, ◌++◌, ◌∷◌, [], length, option_map, IfOk, IfSome, OnOk};
+ghost use Rattle.std.specs.Prelude.{◌≡◌, ◌++◌, ◌∷◌, [], length, option_map, IfOk, IfSome, OnOk, OnErr};
 ghost use Rattle.lhg_num.specs.Marked.{done, valued};
 ghost use Rattle.lhg_num.specs.Halting.{IsHaltedByMemory, IsHaltedByRows};
 ghost use Rattle.lhg_row.specs.Moves.{negated};
@@ -94,9 +94,10 @@ fn outside<N: Scalar>(
     make(alloc, vars, rows)
 }
 
-/// Puts the piece at the end of the list, where there is one.
+/// Puts the piece at the end of the list, where there is one. After a refusal the list is as before, and the piece is dropped.
 pub fn push_some<N: Scalar>(out: &mut Vec<Poly<N>>, piece: Option<Poly<N>>) -> Result<(), Halt>
-    ensures { IsHaltedByMemory result (done (out.old.items ++ as_list piece)) (λ _. out.new.items) }
+    ensures list { IsHaltedByMemory result (done (out.old.items ++ as_list piece)) (λ _. out.new.items) }
+    ensures err { OnErr result (out.new.items ≡ out.old.items) }
 {
     if let Some(piece) = piece {
         out.push(piece)?;
