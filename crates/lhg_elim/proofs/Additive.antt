@@ -1,11 +1,11 @@
 -- What is made of rows one by one, and the loops that put it at the end of a list.
 use Rattle.std.proofs.Common.{◌≡◌, ℕ, ◌+◌, ◌<◌, nat_lt, Bool, true, false, ◌||◌, List, [], ◌∷◌, ◌++◌, length, map, drop, get_or, filter, refl, sym, ap, ◌∙◌, subst, append_assoc, append-nil, arith}
 use Rattle.std.proofs.Math.Bool.{or_assoc}
-use Rattle.std.proofs.lemmas.Bool.{lt-ltb}
+use Rattle.std.proofs.lemmas.Bool.{lt-ltb, or_left, or_right}
 use Rattle.std.proofs.lemmas.List.{map-append, length-append}
 use Rattle.lhg_math.specs.Tests.{by_bool}
 use Rattle.lhg_num.specs.Marked.{Marked, done, and_then, valued, each}
-use Rattle.lhg_num.specs.MarkedLaws.{IsPart, or_left, or_right, part_part, and_then-part}
+use Rattle.lhg_num.specs.MarkedLaws.{IsPart, part_part, and_then-part}
 use Rattle.lhg_row.specs.Row.{PlainRow}
 use Rattle.lhg_row.specs.Piece.{PlainPiece}
 use Rattle.lhg_row.specs.Trim.{row_limit, counted}

@@ -1,12 +1,9 @@
 -- Steps of an elimination: what is left of the rows, and then its trim.
-use Rattle.std.proofs.Common.{◌≡◌, ℕ, suc, ◌-◌, ◌<◌, Result, Ok, Err, sym, ◌∙◌, subst, arith, refl, IfOk}
+use Rattle.std.proofs.Common.{◌≡◌, ℕ, suc, ◌-◌, ◌<◌, sym, ◌∙◌, subst, arith, refl}
 use Rattle.std.proofs.Math.Bool.{or_assoc}
 use Rattle.lhg_num.specs.Arithmetic.{Arithmetic}
 use Rattle.lhg_num.specs.Marked.{Marked, and_then, each, IsRest}
 use Rattle.lhg_num.specs.MarkedLaws.{IsPart, and_then-part, and_then-rest}
-use Rattle.lhg_num.specs.Halting.{IsHaltedByRows}
-use Rattle.lhg_num.specs.declared.refusals.Halt.{Halt}
-use Rattle.lhg_num.specs.declared.refusals.Halt.TheVariants.{Wide, Rows, Pieces, Memory}
 use Rattle.lhg_row.specs.Piece.{PlainPiece}
 use Rattle.lhg_row.specs.Width.{AllWide, HasVariable}
 use Rattle.lhg_row.specs.Trim.{counted, canon, settled, trim}
@@ -27,20 +24,6 @@ then-then m f g =
 counted_part : (a : Arithmetic) (rows : PlainPiece) → IsPart (trim a rows) (counted rows)
 unfolding trim
 counted_part a rows = and_then-part (counted rows) (λ rs. and_then (each (canon a) rs) (settled a))
-
--- ---- a call that does all that is left, and what it ensures
--- its result is that of the whole
-pub rest_halts : {T A : Type 0} (r : Result T Halt) (whole rest : Marked A) (f : T → A) → IsRest whole rest → IsHaltedByRows r rest f → IsHaltedByRows r whole f
-rest_halts (Ok x) whole rest f i h = h ∙ i.same
-rest_halts (Err Wide) whole rest f i h = i.wide h
-rest_halts (Err Rows) whole rest f i h = i.rows h
-rest_halts (Err Pieces) whole rest f i h = h
-rest_halts (Err Memory) whole rest f i h = h
-
--- what holds of the value of the calculus holds of the result
-pub if_ok : {T A : Type 0} (r : Result T Halt) (whole : Marked A) (f : T → A) (P : A → Type 0) → IsHaltedByRows r whole f → P whole.value → IfOk r (λ x. P (f x))
-if_ok (Ok x) whole f P h p = subst P (sym h) p
-if_ok (Err e) whole f P h p = tt
 
 -- ---- the steps
 -- what is left of the rows before it is trimmed

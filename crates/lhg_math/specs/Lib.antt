@@ -1,3 +1,4 @@
+pub mod BoundPairs
 pub mod Bounds
 pub mod Compared
 pub mod Crossings

@@ -2,8 +2,8 @@
 use Rattle.std.specs.Prelude.{◌≡◌, true, false}
 use Rattle.std.proofs.Common.{sym, ap, ◌∙◌}
 use Rattle.lhg_math.specs.Number.{Number, add, mul, neg, lt, nought, unit, half, quot}
-use Rattle.lhg_math.specs.NumberRing.{sums, add_comm, add-nought, add-neg, mul-nought, neg_neg, neg_nought}
-use Rattle.lhg_math.specs.NumberOrder.{lt-neg, lt_asym, lt_irrefl, lt_antisymm, lt_trans, lt-difference, difference-lt, lt-nought_neg, mul_positive, nought_unit}
+use Rattle.lhg_math.specs.NumberRing.{sums, mul_comm, add_comm, add-nought, add-neg, mul-nought, neg_neg, neg_nought}
+use Rattle.lhg_math.specs.NumberOrder.{lt_asym, lt_irrefl, lt_antisymm, lt_trans, lt-difference, difference-lt, lt-nought_neg, neg-lt_nought, mul_positive, nought_unit}
 use Rattle.lhg_math.specs.Quotients.{mul-quot, abs_pos_of_lt, half_positive}
 use Rattle.lhg_math.specs.SumSigns.{add_nonpos, add_negative, add_positive, mul_nonpos, mul_nonneg, mul_negative, half_below}
 use Rattle.lhg_math.specs.Interpolate.{interpolate, interpolate_is, interpolate_mix, interpolate_start, interpolate_end, interpolate_same, interpolate-lt, interpolate_twice}
@@ -89,7 +89,7 @@ crossing_up a b h k =
     let d = add b (neg a) in
     let up : lt nought d ≡ true = lt-difference a b ∙ rises in
     let r = quot (neg a) d in
-    let level : interpolate a b r ≡ nought = interpolate_is a b r ∙ ap (λ w. add a w) (times r d ∙ mul-quot (neg a) d (abs_pos_of_lt d up)) ∙ add-neg a in
+    let level : interpolate a b r ≡ nought = interpolate_is a b r ∙ ap (λ w. add a w) (mul_comm r d ∙ mul-quot (neg a) d (abs_pos_of_lt d up)) ∙ add-neg a in
     record {
       at = r;
       inner = record {
@@ -98,19 +98,12 @@ crossing_up a b h k =
       };
       level = level;
     }
-  where
-    times : (r d : Number) → mul r d ≡ mul d r
-    times r d = simp sums
 
 -- the sign of both ends comes out
 pub interpolate-neg : (a b p : Number) → interpolate (neg a) (neg b) p ≡ neg (interpolate a b p)
 interpolate-neg a b p =
     let s : add (neg a) (mul p (add (neg b) (neg (neg a)))) ≡ neg (add a (mul p (add b (neg a)))) = simp sums in
     interpolate_is (neg a) (neg b) p ∙ s ∙ ap neg (sym (interpolate_is a b p))
-
--- a negative is negative where the number is positive
-pub neg-lt_nought : (c : Number) → lt (neg c) nought ≡ lt nought c
-neg-lt_nought c = ap (λ w. lt (neg c) w) (sym neg_nought) ∙ lt-neg c nought
 
 -- on the way from a positive to a negative number some place is 0
 pub crossing_down : (a b : Number) → lt nought a ≡ true → lt b nought ≡ true → Crossing a b

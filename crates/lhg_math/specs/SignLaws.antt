@@ -1,14 +1,15 @@
 -- Laws of signs, sizes and equality of numbers.
-use Rattle.std.specs.Prelude.{◌≡◌, true, false, cond, refl}
+use Rattle.std.specs.Prelude.{◌≡◌, true, false, not, cond, refl}
 use Rattle.std.specs.Bool.{Decides}
 use Rattle.std.specs.Ordering.{is_eq}
 use Rattle.std.specs.Cmp.{IsEquivalence}
 use Rattle.std.specs.Prelude.{◌<◌}
 use Rattle.std.specs.Int.RustNames.{unsigned_abs}
 use Rattle.std.proofs.Common.{sym, ap, ◌∙◌, subst}
+use Rattle.std.proofs.Math.Bool.{and_comm}
 use Rattle.lhg_math.specs.Number.{Number, mul, neg, lt, nought, sign_of}
 use Rattle.lhg_math.specs.NumberRing.{mul-nought, mul-neg}
-use Rattle.lhg_math.specs.NumberOrder.{lt-mul, lt-nought_neg, lt_irrefl, lt_antisymm, lt_asym}
+use Rattle.lhg_math.specs.NumberOrder.{lt-mul, lt-nought_neg, neg-lt_nought, lt_irrefl, lt_antisymm, lt_asym}
 use Rattle.lhg_math.specs.Quotients.{abs_pos_of_lt, abs_pos_of_gt}
 use Rattle.lhg_math.specs.Signs.{size_of, is_nought, same_number}
 use Rattle.lhg_math.specs.Tests.{by_bool}
@@ -53,6 +54,10 @@ is_nought-nought = same_number-self nought
 -- the test says exactly which number is 0
 pub Decides-is_nought : (x : Number) → Decides (is_nought x) (x ≡ nought)
 Decides-is_nought x = (nought_is x, λ e. ap is_nought e ∙ is_nought-nought)
+
+-- a negative is 0 where the number is
+pub is_nought-neg : (x : Number) → is_nought (neg x) ≡ is_nought x
+is_nought-neg x = rw (neg-lt_nought x, lt-nought_neg x) (and_comm (not (lt nought x)) (not (lt x nought)))
 
 -- the order against 0 is equality exactly for 0
 pub is_eq-sign_of : (x : Number) → is_eq (sign_of x) ≡ is_nought x

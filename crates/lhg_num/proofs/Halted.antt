@@ -1,8 +1,9 @@
 -- A call that hands a halt on.
-use Rattle.std.proofs.Common.{◌≡◌, Bool, true, Result, Ok, Err, sym, subst}
+use Rattle.std.proofs.Common.{◌≡◌, Bool, true, Result, Ok, Err, sym, ◌∙◌, subst}
+use Rattle.std.specs.Prelude.{IfOk}
 use Rattle.std.specs.Result.{IsErrAnd}
 use Rattle.lhg_num.specs.Limits.{IsExact}
-use Rattle.lhg_num.specs.Marked.{Marked, refusing}
+use Rattle.lhg_num.specs.Marked.{Marked, refusing, IsRest}
 use Rattle.lhg_num.specs.MarkedLaws.{IsPart}
 use Rattle.lhg_num.specs.declared.refusals.Halt.{Halt}
 use Rattle.lhg_num.specs.declared.refusals.Halt.TheVariants.{Wide, Rows, Pieces, Memory}
@@ -71,6 +72,20 @@ wide_from_exact (Err e) refused f v h = h
 pub wide_halts : {T A : Type 0} (r : Result T Halt) (m : Marked A) (f : T → A) → IsErrAnd r (λ e. e ≡ Wide) → m.wide ≡ true → IsHaltedByWide r m f
 wide_halts (Ok x) m f h k = absurd h
 wide_halts {T} (Err e) m f h k = subst (λ (d : Halt). IsHaltedByWide {T = T} (Err d) m f) (sym h) k
+
+-- ---- an answer that may halt for numbers and rows
+-- what is exact of the value of the calculus is exact of an answer that is this value
+pub rows_exact : {T A : Type 0} (r : Result T Halt) (m : Marked A) (f : T → A) (P : A → Type 0) → IsHaltedByRows r m f → P m.value → IfOk r (λ x. P (f x))
+rows_exact (Ok x) m f P h p = subst P (sym h) p
+rows_exact (Err e) m f P h p = tt
+
+-- an answer of what is left is one of the whole
+pub rest_halts_rows : {T A : Type 0} (r : Result T Halt) (whole rest : Marked A) (f : T → A) → IsRest whole rest → IsHaltedByRows r rest f → IsHaltedByRows r whole f
+rest_halts_rows (Ok x) whole rest f i h = h ∙ i.same
+rest_halts_rows (Err Wide) whole rest f i h = i.wide h
+rest_halts_rows (Err Rows) whole rest f i h = i.rows h
+rest_halts_rows (Err Pieces) whole rest f i h = h
+rest_halts_rows (Err Memory) whole rest f i h = h
 
 -- ---- a halt of a part is a halt of the whole
 -- where both may halt for all

@@ -1,8 +1,9 @@
 -- Two fractions are the same where their parts are.
-use Rattle.std.proofs.Common.{◌≡◌, pos, Bool, true, false, ◌&&◌, refl, ap, to_z, of_z}
+use Rattle.std.proofs.Common.{◌≡◌, pos, ◌&&◌, ap, to_z, of_z}
 use Rattle.std.specs.Bool.{Decides}
 use Rattle.std.specs.Int.{w128}
 use Rattle.std.specs.Ordering.{int_eq}
+use Rattle.std.proofs.lemmas.Bool.{and_parts}
 use Rattle.std.proofs.lemmas.Bool.Decides.{Decides-int_eq, same_from_decides}
 use Rattle.lhg_math.specs.Number.{Number}
 use Rattle.lhg_math.specs.Represents.{number_ext}
@@ -13,17 +14,12 @@ use Rattle.lhg_num.specs.FracModel.{number_of}
 use Rattle.lhg_num.specs.declared.fraction.Frac.TheInside.{Inside}
 use Rattle.lhg_num.proofs.Fields.{numerator_is, denominator_is}
 
--- both tests passed
-both_true : (a b : Bool) → (a && b) ≡ true → (a ≡ true) × (b ≡ true)
-both_true true b h = (refl, h)
-both_true false b h = cc
-
 -- the tests of the parts say exactly which numbers are equal
 Decides-parts : (x y : Number) → Decides (int_eq x.top y.top && int_eq (pos x.bottom) (pos y.bottom)) (x ≡ y)
 Decides-parts x y =
     let t = Decides-int_eq x.top y.top in
     let b = Decides-int_eq (pos x.bottom) (pos y.bottom) in (
-      λ h. let s = both_true _ _ h in number_ext x y (t.0 s.0) (let e = b.0 s.1 in cc),
+      λ h. let s = and_parts _ _ h in number_ext x y (t.0 s.0) (let e = b.0 s.1 in cc),
       λ e. rw (t.1 (ap (λ z. z.top) e)) (b.1 (ap (λ (z : Number). pos z.bottom) e)),
     )
 

@@ -1,6 +1,7 @@
 -- Laws of values with marks.
-use Rattle.std.specs.Prelude.{◌≡◌, Bool, true, false, ◌||◌, List, [], ◌∷◌, ◌++◌, map}
+use Rattle.std.specs.Prelude.{◌≡◌, true, List, [], ◌∷◌, ◌++◌, map}
 use Rattle.std.proofs.Common.{refl, sym, ap, ◌∙◌, subst, append_assoc, append-nil}
+use Rattle.std.proofs.lemmas.Bool.{or_left, or_right}
 use Rattle.lhg_num.specs.Marked.{Marked, done, and_then, valued, each, walk, IsRest}
 
 -- the marks of a part are among those of the whole
@@ -8,15 +9,6 @@ pub record IsPart {A B : Type 0} (whole : Marked A) (part : Marked B) : Type 0 w
   pub wide : part.wide ≡ true → whole.wide ≡ true
   pub rows : part.rows ≡ true → whole.rows ≡ true
   pub pieces : part.pieces ≡ true → whole.pieces ≡ true
-
--- a mark of the first step is a mark of both
-pub or_left : (a b : Bool) → a ≡ true → (a || b) ≡ true
-or_left a b h = rw h refl
-
--- a mark of the second step is a mark of both
-pub or_right : (a b : Bool) → b ≡ true → (a || b) ≡ true
-or_right true b h = refl
-or_right false b h = h
 
 -- at the start all is left
 pub rest_self : {A : Type 0} (m : Marked A) → IsRest m m

@@ -1,5 +1,6 @@
 -- The thermostat and the tank.
 use Rattle.std.proofs.Common.{◌≡◌, ◌↔◌, refl, ap, [], ◌∷◌, ◌++◌, List, true, false, ℕ, zero, suc, slice_get, IsSomeAnd, inl, inr, sym, ◌∙◌, subst, arith, pos}
+use Rattle.std.proofs.lemmas.Bool.{not-true}
 use Rattle.lhg_math.specs.Gcd.{gcd}
 use Rattle.lhg_math.specs.Represents.{number_ext}
 use Rattle.lhg_math.specs.Number.{Number, add, mul, neg, sub, lt, nought, unit, half, whole, ratio, ratio_suc}
@@ -9,7 +10,6 @@ use Rattle.lhg_math.specs.Interpolate.{interpolate, interpolate-lt, interpolate_
 use Rattle.lhg_math.specs.Places.{IsPlace, start_place}
 use Rattle.lhg_row.specs.Row.{PlainPoint, row_value}
 use Rattle.lhg_row.specs.Piece.{InPiece, InSome}
-use Rattle.lhg_row.specs.Convex.{not_true}
 use Rattle.lhg_row.specs.Decisions.{clash}
 use Rattle.lhg_row.specs.Flow.{IsFlow}
 use Rattle.lhg_row.specs.Play.{PlainMove}
@@ -103,7 +103,7 @@ old_value x (y ∷ z) = ap (λ w. add (add nought (mul unit x)) w) (nought-mul y
 no_switch_above : (x : Number) → lt (whole (pos 4)) x ≡ true → (z : PlainState) → LegalSwitch thermostat 0 (record { loc = 0; at = x ∷ [] }) z → ⊥
 no_switch_above x less z legal =
     let jump : InPiece keep_up_to_four ((x ∷ []) ++ z.at) = there_some (slice_get thermostat.switches 0) legal.switch (λ w. InPiece w.jump ((x ∷ []) ++ z.at)) legal.is_there legal.jump in
-    clash (lt (whole (pos 4)) x) less (ap (λ w. lt (whole (pos 4)) w) (sym (old_value x z.at)) ∙ not_true _ jump.0)
+    clash (lt (whole (pos 4)) x) less (ap (λ w. lt (whole (pos 4)) w) (sym (old_value x z.at)) ∙ not-true _ jump.0)
 
 -- so no such state is in Back of a set
 not_back_above : (S : PlainState → Type 0) (x : Number) → lt (whole (pos 4)) x ≡ true → (e : ℕ) → BackBy thermostat S e (record { loc = 0; at = x ∷ [] }) → ⊥

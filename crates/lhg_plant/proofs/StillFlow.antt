@@ -1,5 +1,6 @@
 -- A flow at which the rows of stillness hold ends where it began.
 use Rattle.std.proofs.Common.{◌≡◌, ◌<◌, ◌≤◌, ◌+◌, ℕ, zero, suc, false, List, [], ◌∷◌, length, get_or, replicate, refl, sym, ap, ◌∙◌, inl, inr, arith}
+use Rattle.std.proofs.lemmas.Bool.{not-true}
 use Rattle.lhg_math.specs.Number.{Number, add, mul, neg, sub, lt, nought, unit}
 use Rattle.lhg_math.specs.NumberRing.{add-nought, nought-add, nought-mul, mul-nought, neg-mul}
 use Rattle.lhg_math.specs.NumberOrder.{lt_irrefl, lt_antisymm, lt-nought_neg, lt-difference, difference-lt}
@@ -9,7 +10,6 @@ use Rattle.lhg_row.specs.Piece.{PlainPiece, InPiece}
 use Rattle.lhg_row.specs.Segment.{along}
 use Rattle.lhg_row.specs.Flow.{displacement, times, IsFlow}
 use Rattle.lhg_row.specs.Join.{sub_is, length-speed}
-use Rattle.lhg_row.specs.Convex.{not_true}
 use Rattle.lhg_row.specs.Decisions.{nat_decided}
 use Rattle.lhg_plant.specs.Still.{axis, still_from, still_rows}
 
@@ -43,7 +43,7 @@ nought_from : (n v m : ℕ) (f : List Number) → length f ≡ n → InPiece (st
 nought_from n v zero f e h k low high = absurd (omega arith)
 nought_from n v (suc m) f e h k low high =
     elim (nat_decided k v) [
-      | inl same ↦ (let here : get_or f v nought ≡ nought = only_nought n v f e (not_true _ h.0) (not_true _ h.1.0) in ap (λ (w : ℕ). get_or f w nought) same ∙ here)
+      | inl same ↦ (let here : get_or f v nought ≡ nought = only_nought n v f e (not-true _ h.0) (not-true _ h.1.0) in ap (λ (w : ℕ). get_or f w nought) same ∙ here)
       | inr other ↦ nought_from n (suc v) m f e h.1.1 k (omega arith) (omega arith)
     ]
 

@@ -1,4 +1,2 @@
-pub mod Exact
-pub mod ListSteps
 pub mod MakeSteps
 pub mod ProjectSteps

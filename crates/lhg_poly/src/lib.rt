@@ -3,7 +3,6 @@
 
 mod copies;
 mod entailing;
-pub mod laws;
 mod making;
 mod meeting;
 mod polys;

@@ -12,7 +12,7 @@ use lhg_row::{Point, Row, System, all_hold};
 use std::alloc::Global;
 use std::marker::Model;
 
-/// A trimmed list of rows with at least one point.
+/// A tidy list of rows with at least one point: rows each of which has a variable, or no row.
 #[derive(Drop)]
 pub struct Poly<N: Scalar> {
     system: System<N>,

@@ -1,28 +1,25 @@
 -- Steps of trim: rows that stand alone, rows of one direction, and what is put where.
-use Rattle.std.proofs.Common.{◌≡◌, ◌<◌, length, Bool, true, false, not, cond, refl}
+use Rattle.std.proofs.Common.{◌≡◌, ◌<◌, length, Bool, true, false, not, cond}
 use Rattle.std.specs.declared.cmp.Ordering.TheVariants.{Less, Equal, Greater}
 use Rattle.lhg_math.specs.Number.{Number, lt, nought, sign_of}
 use Rattle.lhg_math.specs.NumberOrder.{lt_asym}
 use Rattle.lhg_math.specs.Tests.{by_bool}
 use Rattle.std.specs.Prelude.{nat_lt}
-use Rattle.std.proofs.lemmas.Bool.{lt-ltb}
+use Rattle.std.proofs.lemmas.Bool.{lt-ltb, or_left}
 use Rattle.lhg_num.specs.Arithmetic.{Arithmetic}
 use Rattle.lhg_num.specs.Marked.{and_then, each, IsRest}
-use Rattle.lhg_num.specs.MarkedLaws.{IsPart, or_left, and_then-rest, and_then-part, rest_part, rest_rest}
+use Rattle.lhg_num.specs.MarkedLaws.{IsPart, and_then-rest, and_then-part, rest_part, rest_rest}
 use Rattle.lhg_row.specs.Piece.{PlainPiece}
+use Rattle.lhg_row.specs.ValueLaws.{all_false}
 use Rattle.lhg_row.specs.Trim.{row_limit, counted, canon, settled, trim}
 
 -- no row stands alone whose bound is below 0
 pub less_alone : (strict : Bool) (b : Number) → Less ≡ sign_of b → false ≡ cond strict (lt nought b) (not (lt b nought))
 less_alone strict b h =
     by_bool (lt b nought)
-    (λ e. rw (e, lt_asym b nought e) (both strict))
+    (λ e. rw (e, lt_asym b nought e) (all_false strict))
     (λ e. let k : Less ≡ cond (lt nought b) Greater Equal = rw e at h in absurd (by_bool (lt nought b) (λ f. less_greater (rw f at k)) (λ f. less_equal (rw f at k))))
   where
-    both : (s : Bool) → false ≡ cond s false false
-    both true = refl
-    both false = refl
-
     less_greater : Less ≡ Greater → ⊥
     less_greater e = cc
 

@@ -1,44 +1,15 @@
 -- Why does the tightest bound stand for all bounds of its side, and why do two bounds allow the value chosen between them?
-use Rattle.std.specs.Prelude.{◌≡◌, Bool, true, false, not, ◌||◌, ◌&&◌, Option, Some, None}
-use Rattle.std.proofs.Common.{refl, sym, ap, ◌∙◌}
+use Rattle.std.specs.Prelude.{◌≡◌, Bool, true, false, not, ◌&&◌, Option, Some, None}
+use Rattle.std.proofs.Common.{refl, ap, ◌∙◌}
 use Rattle.std.proofs.Math.Bool.{and_comm}
-use Rattle.lhg_math.specs.Number.{Number, add, sub, lt, nought, unit, neg, mid, compare}
-use Rattle.lhg_math.specs.NumberRing.{add_comm, nought-add, neg_nought}
-use Rattle.lhg_math.specs.NumberOrder.{lt_irrefl, lt_antisymm, lt_asym, lt-le_trans, le-lt_trans, lt-add, lt-neg, nought_unit}
-use Rattle.lhg_math.specs.Bounds.{Bound, under, over, le_from_over, le_from_under, over_from_lt, under_from_lt, fits_of_between, mid_fits}
+use Rattle.lhg_math.specs.Number.{Number, lt, mid, compare}
+use Rattle.lhg_math.specs.NumberOrder.{lt_irrefl, lt_antisymm, lt-le_trans, le-lt_trans}
+use Rattle.lhg_math.specs.Bounds.{Bound, under, over, le_from_over, le_from_under, one_more, one_less, fits_of_between, mid_fits}
+use Rattle.lhg_math.specs.BoundPairs.{bounded, below_greater, above_lesser, over_both, under_both}
 use Rattle.lhg_math.specs.Tests.{by_bool, false_true}
 use Rattle.lhg_row.specs.Sample.{greater_of, lesser_of, chosen}
 
 -- ---- the tighter of two
--- what is above a bound is above a lesser one
-below_greater : (l m : Bound) (v : Number) → lt l.at m.at ≡ true → over m v ≡ (over l v && over m v)
-below_greater l m v h =
-    by_bool (over m v) (λ e. let k : over l v ≡ true = over_from_lt l v (lt-le_trans l.at m.at v h (le_from_over m v e)) in e ∙ sym (rw (k, e) refl)) (λ e. e ∙ sym (rw e (none (over l v))))
-  where
-    none : (b : Bool) → (b && false) ≡ false
-    none true = refl
-    none false = refl
-
--- what is below a bound is below a greater one
-above_lesser : (l m : Bound) (v : Number) → lt l.at m.at ≡ true → under l v ≡ (under l v && under m v)
-above_lesser l m v h =
-    by_bool (under l v) (λ e. let k : under m v ≡ true = under_from_lt m v (le-lt_trans v l.at m.at (le_from_under l v e) h) in e ∙ sym (rw (e, k) refl)) (λ e. e ∙ sym (rw e refl))
-
-abbrev bounded : Number → Bool → Bound
-bounded b strict = record { at = b; strict = strict }
-
-over_both : (b v : Number) (t u : Bool) → over (bounded b (t || u)) v ≡ (over (bounded b t) v && over (bounded b u) v)
-over_both b v true true = by_bool (lt b v) (λ e. rw e refl) (λ e. rw e refl)
-over_both b v true false = by_bool (lt b v) (λ e. rw (e, lt_asym b v e) refl) (λ e. rw e refl)
-over_both b v false true = by_bool (lt b v) (λ e. rw (e, lt_asym b v e) refl) (λ e. by_bool (lt v b) (λ f. rw (e, f) refl) (λ f. rw (e, f) refl))
-over_both b v false false = by_bool (lt v b) (λ e. rw e refl) (λ e. rw e refl)
-
-under_both : (b v : Number) (t u : Bool) → under (bounded b (t || u)) v ≡ (under (bounded b t) v && under (bounded b u) v)
-under_both b v true true = by_bool (lt v b) (λ e. rw e refl) (λ e. rw e refl)
-under_both b v true false = by_bool (lt v b) (λ e. rw (e, lt_asym v b e) refl) (λ e. rw e refl)
-under_both b v false true = by_bool (lt v b) (λ e. rw (e, lt_asym v b e) refl) (λ e. by_bool (lt b v) (λ f. rw (e, f) refl) (λ f. rw (e, f) refl))
-under_both b v false false = by_bool (lt b v) (λ e. rw e refl) (λ e. rw e refl)
-
 -- the greater of two lower bounds allows what both do
 pub greater_of-over : (l m : Bound) (v : Number) → over (greater_of l m (compare l.at m.at)) v ≡ (over l v && over m v)
 greater_of-over l m v =
@@ -69,13 +40,6 @@ under_bound None v = true
 under_bound (Some u) v = under u v
 
 -- ---- the value between two bounds
-one_more : (b : Number) → lt b (add b unit) ≡ true
-one_more b = ap (λ w. lt w (add b unit)) (sym (nought-add b)) ∙ ap (λ w. lt (add nought b) w) (add_comm b unit) ∙ lt-add nought unit b ∙ nought_unit
-
-one_less : (b : Number) → lt (sub b unit) b ≡ true
-unfolding sub
-one_less b = ap (λ w. lt (add b (neg unit)) w) (sym (nought-add b)) ∙ ap (λ w. lt w (add nought b)) (add_comm b (neg unit)) ∙ lt-add (neg unit) nought b ∙ ap (λ w. lt (neg unit) w) (sym neg_nought) ∙ lt-neg unit nought ∙ nought_unit
-
 weak_over : (b : Number) → over (bounded b false) b ≡ true
 weak_over b = ap not (lt_irrefl b)
 

@@ -1,6 +1,7 @@
 -- What holds at the ends of a segment holds between them: pieces are convex, between lies inside, one crossing place per row.
 use Rattle.std.specs.Prelude.{◌≡◌, ◌↔◌, Bool, true, false, not, [], ◌∷◌, length}
-use Rattle.std.proofs.Common.{refl, sym, ap, ◌∙◌}
+use Rattle.std.proofs.Common.{sym, ap, ◌∙◌}
+use Rattle.std.proofs.lemmas.Bool.{not-true}
 use Rattle.lhg_math.specs.Number.{Number, lt, nought, unit}
 use Rattle.lhg_math.specs.NumberOrder.{lt_asym}
 use Rattle.lhg_math.specs.Interpolate.{interpolate, interpolate_same}
@@ -17,15 +18,10 @@ strict_sign : (s : Bool) (e : Number) → s ≡ true → fits_sign s e ≡ true 
 strict_sign true e i h = h
 strict_sign false e i h = false_true i
 
--- what is not true is false
-pub not_true : (b : Bool) → not b ≡ true → b ≡ false
-not_true true h = false_true h
-not_true false h = refl
-
 -- no row holds where its excess is above 0
 weak_sign : (s : Bool) (e : Number) → fits_sign s e ≡ true → lt nought e ≡ false
 weak_sign true e h = lt_asym e nought h
-weak_sign false e h = not_true (lt nought e) h
+weak_sign false e h = not-true (lt nought e) h
 
 -- a strict row holds where its excess is below 0
 sign_strict : (s : Bool) (e : Number) → s ≡ true → lt e nought ≡ true → fits_sign s e ≡ true

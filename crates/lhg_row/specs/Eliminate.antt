@@ -96,7 +96,7 @@ eliminate a k rows =
     cond (is_nothing rows) (done (map (drop_column k) rows)) rest
 
 -- ---- is_empty
--- whether a trimmed list over n variables has no point
+-- whether a tidy list over n variables has no point
 abbrev pub is_empty : Arithmetic → ℕ → PlainPiece → Marked Bool
 is_empty a zero rows = done (is_nothing rows)
 is_empty a (suc n) rows = and_then (eliminate a n rows) (is_empty a n)

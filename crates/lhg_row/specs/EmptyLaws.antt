@@ -47,11 +47,8 @@ tidy_nothing rows w (inr v) e = no_variables rows w v
 pub is_empty-exact : (a : Arithmetic) (n : ℕ) (rows : PlainPiece) → IsLawful a → AllWide n rows → IsTidy rows → IsEmptiness n rows (is_empty a n rows).value
 is_empty-exact a zero rows laws w t =
     by_bool (is_nothing rows)
-    (λ e. rw e (λ x h k. clash (sym (nothing-fails rows x e) ∙ all_from_every (λ r. holds_at r x) rows k)))
+    (λ e. rw e (λ x h k. false_true (sym (nothing-fails rows x e) ∙ all_from_every (λ r. holds_at r x) rows k)))
     (λ e. rw e (record { point = []; wide = refl; holds = subst (λ rs. InPiece rs []) (sym (tidy_nothing rows w t e)) tt }))
-  where
-    clash : false ≡ true → ⊥
-    clash e = cc
 is_empty-exact a (suc n) rows laws w t =
     let es = (eliminate a n rows).value in
     up (is_empty a n es).value (is_empty-exact a n es laws (eliminate-wide a n n rows laws (omega arith) w) (eliminate-tidy a n n rows (omega arith) w))

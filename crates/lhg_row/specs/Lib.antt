@@ -49,6 +49,7 @@ pub mod PlainCode
 pub mod Play
 pub mod PlayLemmas
 pub mod ProjectLaws
+pub mod RemoveLaws
 pub mod Row
 pub mod Sample
 pub mod SampleLaws

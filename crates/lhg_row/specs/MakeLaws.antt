@@ -1,13 +1,11 @@
 -- Why has the piece of a list of rows exactly the points of the list?
-use Rattle.std.specs.Prelude.{◌≡◌, ℕ, zero, suc, ◌<◌, ◌≤◌, Bool, true, false, ◌&&◌, [], ◌∷◌, length, remove, Some, None}
-use Rattle.std.proofs.Common.{refl, sym, ap, ◌∙◌, arith, subst, inl, inr}
-use Rattle.std.proofs.Math.Bool.{and_comm, and_assoc}
+use Rattle.std.specs.Prelude.{◌≡◌, ℕ, zero, suc, ◌<◌, ◌≤◌, Bool, true, false, ◌&&◌, length, remove, Some, None}
+use Rattle.std.proofs.Common.{refl, sym, ap, ◌∙◌, arith, subst}
 use Rattle.std.proofs.lemmas.List.Edits.{length-remove}
-use Rattle.lhg_math.specs.Tests.{Every, by_bool, false_true, every_from_all, all_from_every}
+use Rattle.lhg_math.specs.Tests.{by_bool, every_from_all, all_from_every}
 use Rattle.lhg_num.specs.Arithmetic.{Arithmetic, IsLawful}
 use Rattle.lhg_row.specs.Row.{PlainPoint, holds_at}
 use Rattle.lhg_row.specs.Piece.{PlainPiece, in_piece}
-use Rattle.lhg_row.specs.Constant.{varies, is_nothing}
 use Rattle.lhg_row.specs.Width.{AllWide, IsTidy}
 use Rattle.lhg_row.specs.HasValue.{IsEmptiness}
 use Rattle.lhg_row.specs.Trim.{trim}
@@ -18,45 +16,7 @@ use Rattle.lhg_row.specs.EmptyLaws.{is_empty-exact}
 use Rattle.lhg_row.specs.Pieces.{are_empty, entails, thin_at, thin, made, make}
 use Rattle.lhg_row.specs.PieceFacts.{IsEntailment, IsMade}
 use Rattle.lhg_row.specs.EntailLaws.{entails-exact}
-
--- ---- a list without one of its rows
-and_left_comm : (a b c : Bool) → (a && (b && c)) ≡ (b && (a && c))
-and_left_comm a b c = sym (and_assoc a b c) ∙ ap (λ d. d && c) (and_comm a b) ∙ and_assoc b a c
-
--- a list holds where one of its rows and the others do
-pub in_piece-remove : (i : ℕ) (rows : PlainPiece) (x : PlainPoint) → i < length rows → in_piece rows x ≡ (holds_at (row_at rows i) x && in_piece (remove rows i) x)
-in_piece-remove i [] x h = absurd (omega arith)
-in_piece-remove zero (r ∷ rows) x h = refl
-in_piece-remove (suc i) (r ∷ rows) x h =
-    ap (λ b. holds_at r x && b) (in_piece-remove i rows x (omega arith)) ∙ and_left_comm (holds_at r x) (holds_at (row_at rows i) x) (in_piece (remove rows i) x)
-
--- the other rows have the width of all
-pub remove-wide : (n i : ℕ) (rows : PlainPiece) → i < length rows → AllWide n rows → AllWide n (remove rows i)
-remove-wide n i [] h w = absurd (omega arith)
-remove-wide n zero (r ∷ rows) h w = w.1
-remove-wide n (suc i) (r ∷ rows) h w = (w.0, remove-wide n i rows (omega arith) w.1)
-
--- so has the one
-pub row_at-wide : (n i : ℕ) (rows : PlainPiece) → i < length rows → AllWide n rows → length (row_at rows i).coefs ≡ n
-row_at-wide n i [] h w = absurd (omega arith)
-row_at-wide n zero (r ∷ rows) h w = w.0
-row_at-wide n (suc i) (r ∷ rows) h w = row_at-wide n i rows (omega arith) w.1
-
-remove-varies : (i : ℕ) (rows : PlainPiece) → i < length rows → Every varies rows → Every varies (remove rows i)
-remove-varies i [] h v = absurd (omega arith)
-remove-varies zero (r ∷ rows) h v = v.1
-remove-varies (suc i) (r ∷ rows) h v = (v.0, remove-varies i rows (omega arith) v.1)
-
-remove-nothing : (i : ℕ) (rows : PlainPiece) → i < length rows → is_nothing rows ≡ true → Every varies (remove rows i)
-remove-nothing i [] h f = absurd (omega arith)
-remove-nothing zero (r ∷ []) h f = tt
-remove-nothing (suc i) (r ∷ []) h f = absurd (omega arith)
-remove-nothing i (r ∷ s ∷ rows) h f = false_true f
-
--- a tidy list stays tidy without a row
-pub remove-tidy : (i : ℕ) (rows : PlainPiece) → i < length rows → IsTidy rows → IsTidy (remove rows i)
-remove-tidy i rows h (inl f) = inr (remove-nothing i rows h f)
-remove-tidy i rows h (inr v) = inr (remove-varies i rows h v)
+use Rattle.lhg_row.specs.RemoveLaws.{in_piece-remove, remove-wide, remove-tidy}
 
 -- ---- thin
 -- a list with the points of another, of its width, and tidy where it is
@@ -81,14 +41,15 @@ pub thin_at-is : (a : Arithmetic) (n i : ℕ) (rows : PlainPiece) → IsLawful a
 thin_at-is a n i rows laws h w =
     let r = row_at rows i in
     let rest = remove rows i in
-    let x = entails-exact a n rest r laws (remove-wide n i rows h w) (row_at-wide n i rows h w) in
+    let others = remove-wide n i rows h w in
+    let x = entails-exact a n rest r laws others.1 others.0 in
     by_bool (entails a n rest r).value
     (λ e.
     let y : IsEntailment n rest r true = subst (IsEntailment n rest r) e x in
     let follows : (p : PlainPoint) → length p ≡ n → in_piece rest p ≡ true → holds_at r p ≡ true = λ p l k. y p l (every_from_all (λ q. holds_at q p) rest k) in
     rw e (record {
       points = λ p l. sym (in_piece-remove i rows p h ∙ first_follows (holds_at r p) (in_piece rest p) (follows p l));
-      wide = remove-wide n i rows h w;
+      wide = others.1;
       tidy = remove-tidy i rows h;
     }))
     (λ e. rw e (all_kept n rows w))

@@ -45,19 +45,17 @@ value-moved s t m (c ∷ cs) (y ∷ x) [] e = absurd (omega arith)
 value-moved s t m (c ∷ cs) (y ∷ x) (d ∷ by) e =
     ap (λ w. row_value w cs (moved x m by)) (move_step s t m c y d) ∙ value-moved (add s (mul c y)) (add t (mul c d)) m cs x by (omega arith)
 
+-- a sum less its first part is the second
+cancel : (r m : Number) → add (add r m) (neg r) ≡ m
+cancel r m = ap (λ w. add w (neg r)) (add_comm r m) ∙ add_assoc m r (neg r) ∙ ap (λ w. add m w) (add-neg r) ∙ add-nought m
+
 -- a summand goes to the other side
 pub lt_move : (r m b : Number) → lt (add r m) b ≡ lt m (add b (neg r))
 lt_move r m b = sym (lt-add (add r m) b (neg r)) ∙ ap (λ w. lt w (add b (neg r))) (cancel r m)
-  where
-    cancel : (r m : Number) → add (add r m) (neg r) ≡ m
-    cancel r m = ap (λ w. add w (neg r)) (add_comm r m) ∙ add_assoc m r (neg r) ∙ ap (λ w. add m w) (add-neg r) ∙ add-nought m
 
 -- what is added on one side of an order may be taken from the other
 pub move_lt : (r m b : Number) → lt b (add r m) ≡ lt (add b (neg r)) m
 move_lt r m b = sym (lt-add b (add r m) (neg r)) ∙ ap (λ w. lt (add b (neg r)) w) (cancel r m)
-  where
-    cancel : (r m : Number) → add (add r m) (neg r) ≡ m
-    cancel r m = ap (λ w. add w (neg r)) (add_comm r m) ∙ add_assoc m r (neg r) ∙ ap (λ w. add m w) (add-neg r) ∙ add-nought m
 
 -- the shifted row holds at x exactly where the row holds at x + m * by
 pub shift-holds : (a : Arithmetic) (r : PlainRow) (by : PlainPoint) (m : Number) (x : PlainPoint) → length x ≡ length by

@@ -1,6 +1,6 @@
 -- What is found as a pair, and what are the rows beside it?
-use Rattle.std.specs.Prelude.{◌≡◌, ℕ, zero, suc, ◌+◌, ◌<◌, Bool, true, false, cond, ◌||◌, ◌&&◌, [], ◌∷◌, length, filter, remove, Option, Some, None}
-use Rattle.std.proofs.Common.{refl, sym, ap, ◌∙◌, arith, subst}
+use Rattle.std.specs.Prelude.{◌≡◌, ℕ, suc, ◌+◌, ◌<◌, true, false, ◌||◌, ◌&&◌, [], ◌∷◌, length, filter, remove, Option, Some, None}
+use Rattle.std.proofs.Common.{sym, ap, ◌∙◌, arith, subst}
 use Rattle.std.proofs.lemmas.Bool.{or_parts, not-true}
 use Rattle.std.proofs.lemmas.List.Edits.{get_or-remove_below, length-remove}
 use Rattle.lhg_math.specs.Tests.{by_bool, false_true}
@@ -12,25 +12,8 @@ use Rattle.lhg_row.specs.Piece.{PlainPiece, in_piece}
 use Rattle.lhg_row.specs.Column.{level_at}
 use Rattle.lhg_row.specs.Constant.{never}
 use Rattle.lhg_row.specs.Width.{AllWide}
+use Rattle.lhg_row.specs.RemoveLaws.{in_piece-remove, remove-wide, filter-remove}
 use Rattle.lhg_row.specs.Eliminate.{is_opposite, is_candidate, is_mate, mate_at, or_else, pair_at, row_at, beside}
-
--- a list holds where one of its rows and the others do
-pub in_piece-remove : (i : ℕ) (rows : PlainPiece) (x : PlainPoint) → i < length rows → in_piece rows x ≡ (holds_at (row_at rows i) x && in_piece (remove rows i) x)
-in_piece-remove i [] x h = absurd (omega arith)
-in_piece-remove zero (r ∷ rows) x h = refl
-in_piece-remove (suc i) (r ∷ rows) x h = ap (λ b. holds_at r x && b) (in_piece-remove i rows x (omega arith)) ∙ and_left_comm (holds_at r x) (holds_at (row_at rows i) x) (in_piece (remove rows i) x)
-
--- the others have the width of the list, and so has the one
-pub remove-wide : (n i : ℕ) (rows : PlainPiece) → i < length rows → AllWide n rows → (length (row_at rows i).coefs ≡ n) × AllWide n (remove rows i)
-remove-wide n i [] h w = absurd (omega arith)
-remove-wide n zero (r ∷ rows) h w = (w.0, w.1)
-remove-wide n (suc i) (r ∷ rows) h w = let v = remove-wide n i rows (omega arith) w.1 in (v.0, (w.0, v.1))
-
--- a filter does not see a row that fails its test
-pub filter-remove : (p : PlainRow → Bool) (i : ℕ) (rows : PlainPiece) → i < length rows → p (row_at rows i) ≡ false → filter p rows ≡ filter p (remove rows i)
-filter-remove p i [] h e = absurd (omega arith)
-filter-remove p zero (r ∷ rows) h e = rw e refl
-filter-remove p (suc i) (r ∷ rows) h e = ap (λ rs. cond (p r) (r ∷ rs) rs) (filter-remove p i rows (omega arith) e)
 
 -- ---- the mate of a row
 -- a row that may be of the pair is weak and has the variable

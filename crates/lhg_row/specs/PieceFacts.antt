@@ -6,7 +6,7 @@ use Rattle.lhg_row.specs.Members.{AllOf}
 use Rattle.lhg_row.specs.Width.{AllWide, IsTidy}
 use Rattle.lhg_row.specs.HasValue.{HasPoint}
 
--- rows over n variables that trim may leave, with a point
+-- tidy rows over n variables, with a point
 pub record IsPoly (n : ℕ) (piece : PlainPiece) : Type 0 where
   pub wide : AllWide n piece
   pub tidy : IsTidy piece

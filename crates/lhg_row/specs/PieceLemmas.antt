@@ -1,6 +1,7 @@
 -- Whether a point is in a piece, or in one of some pieces, is decidable; a point of a piece is one of its closure.
-use Rattle.std.specs.Prelude.{◌≡◌, Bool, true, false, not, cond, ◌||◌, ◌⊎◌, ◌↔◌, List, [], ◌∷◌}
-use Rattle.std.proofs.Common.{refl, inl, inr, ap}
+use Rattle.std.specs.Prelude.{◌≡◌, Bool, true, false, not, cond, ◌⊎◌, ◌↔◌, List, [], ◌∷◌}
+use Rattle.std.proofs.Common.{inl, inr, ap}
+use Rattle.std.proofs.lemmas.Bool.{or_left, or_right, or_cases}
 use Rattle.lhg_math.specs.Tests.{every_from_all, all_from_every, by_bool, false_true}
 use Rattle.lhg_math.specs.Number.{Number, lt}
 use Rattle.lhg_math.specs.NumberOrder.{lt_asym}
@@ -15,31 +16,16 @@ row_decided r p = by_bool (holds_at r p) (λ e. inl e) (λ e. inr (λ h. let t :
 pub in_piece_is : (rows : PlainPiece) (p : PlainPoint) → InPiece rows p ↔ (in_piece rows p ≡ true)
 in_piece_is rows p = (all_from_every (λ r. holds_at r p) rows, every_from_all (λ r. holds_at r p) rows)
 
--- an alternative holds where its first side does
-left_true : (a b : Bool) → a ≡ true → (a || b) ≡ true
-left_true true b e = refl
-left_true false b e = false_true e
-
--- the same of the second side
-right_true : (a b : Bool) → b ≡ true → (a || b) ≡ true
-right_true true b e = refl
-right_true false b e = e
-
--- where an alternative holds one of its sides does
-one_true : (a b : Bool) → (a || b) ≡ true → (a ≡ true) ⊎ (b ≡ true)
-one_true true b e = inl refl
-one_true false b e = inr e
-
 -- the fact gives the test
 some_test : (pieces : List PlainPiece) (p : PlainPoint) → InSome pieces p → in_some pieces p ≡ true
 some_test [] p h = absurd h
-some_test (piece ∷ pieces) p (inl h) = left_true _ _ ((in_piece_is piece p).0 h)
-some_test (piece ∷ pieces) p (inr h) = right_true _ _ (some_test pieces p h)
+some_test (piece ∷ pieces) p (inl h) = or_left _ _ ((in_piece_is piece p).0 h)
+some_test (piece ∷ pieces) p (inr h) = or_right _ _ (some_test pieces p h)
 
 -- the test gives the fact
 test_some : (pieces : List PlainPiece) (p : PlainPoint) → in_some pieces p ≡ true → InSome pieces p
 test_some [] p h = false_true h
-test_some (piece ∷ pieces) p h = elim (one_true _ _ h) [ inl e ↦ inl ((in_piece_is piece p).1 e) | inr e ↦ inr (test_some pieces p e) ]
+test_some (piece ∷ pieces) p h = elim (or_cases _ _ h) [ inl e ↦ inl ((in_piece_is piece p).1 e) | inr e ↦ inr (test_some pieces p e) ]
 
 -- the fact and the test say the same of a list of pieces
 pub in_some_is : (pieces : List PlainPiece) (p : PlainPoint) → InSome pieces p ↔ (in_some pieces p ≡ true)

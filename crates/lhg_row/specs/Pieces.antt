@@ -55,6 +55,6 @@ abbrev pub eliminate_last : Arithmetic → ℕ → ℕ → PlainPiece → Marked
 eliminate_last a kept zero rows = done rows
 eliminate_last a kept (suc count) rows = and_then (eliminate a (kept + count) rows) (eliminate_last a kept count)
 
--- the piece that the first variables of a trimmed list over n variables make
+-- the piece that the first variables of a tidy list over n variables make
 abbrev pub project : Arithmetic → ℕ → ℕ → PlainPiece → Marked (Option PlainPiece)
 project a n kept rows = and_then (eliminate_last a kept (n - kept) rows) (make a kept)

@@ -10,7 +10,7 @@ pub record PlainSystem : Type 0 where
   pub width : ℕ
   pub lines : PlainPiece
 
--- each row has one coefficient per variable, and the list is one that trim may leave
+-- each row has one coefficient per variable, and the list is tidy
 pub record IsSystem (width : ℕ) (lines : PlainPiece) : Type 0 where
   pub wide : AllWide width lines
   pub tidy : IsTidy lines

@@ -1,17 +1,18 @@
 -- Why does trim keep the points?
 use Rattle.std.specs.Prelude.{◌≡◌, ◌-◌, Bool, true, false, not, ◌||◌, ◌&&◌, List, [], ◌∷◌, ◌++◌, map, length, get_or, filter}
 use Rattle.std.proofs.Common.{refl, sym, ap, ◌∙◌, arith}
-use Rattle.std.proofs.Math.Bool.{and_comm, and_assoc, and-true}
+use Rattle.std.proofs.Math.Bool.{and_comm, and_assoc, and-true, or_comm}
 use Rattle.std.proofs.lemmas.Bool.{and_parts, not-true}
 use Rattle.std.proofs.lemmas.List.{length-append, take_at, get_or_at, map-append}
 use Rattle.std.specs.declared.cmp.Ordering.{Ordering}
 use Rattle.std.specs.declared.cmp.Ordering.TheVariants.{Less, Equal, Greater}
 use Rattle.lhg_math.specs.Number.{Number, mul, lt, nought, compare}
-use Rattle.lhg_math.specs.NumberOrder.{lt_antisymm, lt_asym, le-lt_trans}
+use Rattle.lhg_math.specs.NumberOrder.{lt_antisymm}
 use Rattle.lhg_math.specs.Signs.{lead, same_number}
 use Rattle.lhg_math.specs.SignLaws.{size_above, same_is}
 use Rattle.lhg_math.specs.Tests.{Every, any_of, by_bool, false_true}
-use Rattle.lhg_math.specs.Bounds.{Bound, under, le_from_under, under_from_lt}
+use Rattle.lhg_math.specs.Bounds.{under}
+use Rattle.lhg_math.specs.BoundPairs.{bounded, above_lesser, under_both}
 use Rattle.lhg_num.specs.Arithmetic.{Arithmetic, IsLawful, scaled, scaled_multiple}
 use Rattle.lhg_num.specs.Marked.{each}
 use Rattle.lhg_row.specs.Conjunctions.{and_left_comm}
@@ -63,22 +64,6 @@ agree-same a made f g (c ∷ cs) (d ∷ ds) h =
     let s = and_parts (same_number (mul f c) (made (mul g d))) (agree a made f g cs ds).value h in
     ap (λ y. y ∷ map (λ x. mul f x) cs) (same_is _ _ s.0) ∙ ap (λ ys. made (mul g d) ∷ ys) (agree-same a made f g cs ds s.1)
 
--- a smaller bound entails a greater one
-less_under : (l m : Bound) (v : Number) → lt l.at m.at ≡ true → under l v ≡ (under l v && under m v)
-less_under l m v h =
-    by_bool (under l v) (λ e. let k : under m v ≡ true = under_from_lt m v (le-lt_trans v l.at m.at (le_from_under l v e) h) in e ∙ sym (rw (e, k) refl)) (λ e. e ∙ sym (rw e refl))
-
--- a bound and whether it is strict
-abbrev bounded : Number → Bool → Bound
-bounded b strict = record { at = b; strict = strict }
-
--- equal bounds together are strict where either is
-both_under : (b v : Number) (t u : Bool) → under (bounded b (u || t)) v ≡ (under (bounded b t) v && under (bounded b u) v)
-both_under b v true true = by_bool (lt v b) (λ e. rw e refl) (λ e. rw e refl)
-both_under b v true false = by_bool (lt v b) (λ e. rw (e, lt_asym v b e) refl) (λ e. rw e refl)
-both_under b v false true = by_bool (lt v b) (λ e. rw (e, lt_asym v b e) refl) (λ e. by_bool (lt b v) (λ f. rw (e, f) refl) (λ f. rw (e, f) refl))
-both_under b v false false = by_bool (lt b v) (λ e. rw e refl) (λ e. rw e refl)
-
 module _ (a : Arithmetic) (r s : PlainRow) (r_varies : is_constant r ≡ false) (s_varies : is_constant s ≡ false) where
   -- the tighter of two rows with one direction holds where both do
   pub tighter-holds : (x : PlainPoint) → (same_direction a r s).value ≡ true
@@ -94,12 +79,12 @@ module _ (a : Arithmetic) (r s : PlainRow) (r_varies : is_constant r ≡ false) 
       let es0 : (t : Bool) → under (bounded q t) v ≡ holds_at (built s.coefs t s.bound) x = λ t. ap (λ w. under (bounded q t) w) (sym ev) ∙ holds-scaled g (built s.coefs t s.bound) x (size_above (lead r.coefs) r_varies) in
       let es : under (bounded q s.strict) v ≡ holds_at s x = es0 s.strict in
       by_bool (lt p q)
-      (λ e. rw e (sym er ∙ less_under (bounded p r.strict) (bounded q s.strict) v e ∙ ap (λ b. b && under (bounded q s.strict) v) er ∙ ap (λ b. holds_at r x && b) es))
+      (λ e. rw e (sym er ∙ above_lesser (bounded p r.strict) (bounded q s.strict) v e ∙ ap (λ b. b && under (bounded q s.strict) v) er ∙ ap (λ b. holds_at r x && b) es))
       (λ e. by_bool (lt q p)
-      (λ k. rw (e, k) (sym es ∙ less_under (bounded q s.strict) (bounded p r.strict) v k ∙ ap (λ b. b && under (bounded p r.strict) v) es ∙ ap (λ b. holds_at s x && b) er ∙ and_comm (holds_at s x) (holds_at r x)))
+      (λ k. rw (e, k) (sym es ∙ above_lesser (bounded q s.strict) (bounded p r.strict) v k ∙ ap (λ b. b && under (bounded p r.strict) v) es ∙ ap (λ b. holds_at s x && b) er ∙ and_comm (holds_at s x) (holds_at r x)))
       (λ k. rw (e, k) (
       let same : p ≡ q = lt_antisymm p q e k in
-      sym (es0 (s.strict || r.strict)) ∙ both_under q v r.strict s.strict ∙ ap (λ b. under (bounded b r.strict) v && under (bounded q s.strict) v) (sym same) ∙ ap (λ b. b && under (bounded q s.strict) v) er ∙ ap (λ b. holds_at r x && b) es)))
+      sym (es0 (s.strict || r.strict)) ∙ ap (λ t. under (bounded q t) v) (or_comm s.strict r.strict) ∙ under_both q v r.strict s.strict ∙ ap (λ b. under (bounded b r.strict) v && under (bounded q s.strict) v) (sym same) ∙ ap (λ b. b && under (bounded q s.strict) v) er ∙ ap (λ b. holds_at r x && b) es)))
 
 -- ---- the gathered rows
 tighter-varies : (o : Ordering) (s r : PlainRow) → varies s ≡ true → varies r ≡ true → varies (tighter o s r) ≡ true

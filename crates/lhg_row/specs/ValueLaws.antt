@@ -18,6 +18,11 @@ marked_value-value a s [] xs = refl
 marked_value-value a s (c ∷ cs) [] = refl
 marked_value-value a s (c ∷ cs) (x ∷ xs) = marked_value-value a (add s (mul c x)) cs xs
 
+-- a choice between two falsehoods
+pub all_false : (s : Bool) → false ≡ cond s false false
+all_false true = refl
+all_false false = refl
+
 -- the order of a value against a bound tells the truth
 fits_order-compare : (strict : Bool) (v b : Number) → fits_order strict (compare v b) ≡ cond strict (lt v b) (not (lt b v))
 fits_order-compare strict v b =
@@ -28,10 +33,6 @@ fits_order-compare strict v b =
     all_true : (s : Bool) → true ≡ cond s true true
     all_true true = refl
     all_true false = refl
-
-    all_false : (s : Bool) → false ≡ cond s false false
-    all_false true = refl
-    all_false false = refl
 
     at_tie : (s : Bool) → not s ≡ cond s false true
     at_tie true = refl

@@ -1,4 +1,4 @@
--- How many coefficients have the rows of a list, and which lists may trim leave?
+-- How many coefficients have the rows of a list, and which lists are tidy?
 use Rattle.std.specs.Prelude.{◌≡◌, ◌<◌, ◌⊎◌, ℕ, true, length}
 use Rattle.lhg_math.specs.Tests.{Every}
 use Rattle.lhg_row.specs.Piece.{PlainPiece}
@@ -20,6 +20,6 @@ pub record HasVariable (k : ℕ) (rows : PlainPiece) : Type 0 where
   pub there : k < width
   pub wide : AllWide width rows
 
--- the one row 0 < 0, or rows of which each has a variable
+-- a tidy list: the one row 0 < 0, or rows of which each has a variable
 abbrev pub IsTidy : PlainPiece → Type 0
 IsTidy rows = (is_nothing rows ≡ true) ⊎ Every varies rows

@@ -1,4 +1,4 @@
-// Trimmed lists of rows.
+// Tidy lists of rows: `0 < 0` alone, or rows each of which has a variable.
 ghost use Rattle.std.specs.Prelude.{◌≡◌};
 ghost use Rattle.lhg_row.specs.System.{PlainSystem, IsSystem};
 
@@ -6,7 +6,7 @@ use crate::rows::Row;
 use lhg_num::Scalar;
 use std::marker::Model;
 
-/// A number of variables and a trimmed list of rows, each with that many coefficients.
+/// A number of variables and a tidy list of rows, each with that many coefficients: `0 < 0` alone, or rows each of which has a variable.
 #[derive(Drop)]
 pub struct System<N: Scalar> {
     vars: usize,
@@ -36,7 +36,7 @@ impl<N: Scalar> System<N> {
     /// The rows, in order.
     pub fn rows(&self) -> &[Row<N>]
         ensures rows { result.now ≡ self.now.lines }
-        ensures trimmed { IsSystem self.now.width self.now.lines }
+        ensures tidy { IsSystem self.now.width self.now.lines }
     {
         &self.rows
     }
@@ -49,7 +49,7 @@ impl<N: Scalar> System<N> {
         rows
     }
 
-    /// The system of a list that trim may leave.
+    /// The system of a tidy list.
     pub fn of(vars: usize, rows: Vec<Row<N>>) -> System<N>
         requires { IsSystem vars rows.items }
         ensures { result ≡ record { width = vars; lines = rows.items } }

@@ -1,5 +1,5 @@
 -- Steps of the loop that cuts a piece off, and what is left where two pieces have no common point.
-use Rattle.std.proofs.Common.{◌≡◌, ℕ, ◌+◌, ◌<◌, List, [], ◌∷◌, ◌++◌, length, drop, get_or, Bool, true, false, Option, Some, None, refl, sym, ap, ◌∙◌, subst}
+use Rattle.std.proofs.Common.{◌≡◌, ℕ, ◌+◌, ◌<◌, List, [], ◌∷◌, ◌++◌, length, drop, get_or, Bool, true, false, Option, refl, sym, ap, ◌∙◌, subst}
 use Rattle.lhg_num.specs.Arithmetic.{Arithmetic}
 use Rattle.lhg_num.specs.Marked.{Marked, and_then, valued, IsRest}
 use Rattle.lhg_num.specs.MarkedLaws.{IsPart, IsBuilt, and_then-part, and_then-rest, part_part}
@@ -16,14 +16,10 @@ use Rattle.lhg_row.specs.EntailLaws.{more-wide}
 use Rattle.lhg_row.specs.MakeLaws.{make-empty, make-thin}
 use Rattle.lhg_row.proofs.Steps.{drop_cons, then-part}
 use Rattle.lhg_union.specs.PolyLists.{lines_of, AllVars}
+use Rattle.lhg_union.proofs.ListFacts.{listed-append}
 use Rattle.lhg_union.proofs.GatherSteps.{more-part, more-step}
 
 -- ---- cut_off
--- a piece that may be there stands before a list
-listed-append : (o : Option PlainPiece) (ps : List PlainPiece) → listed o ps ≡ listed o [] ++ ps
-listed-append None ps = refl
-listed-append (Some p) ps = refl
-
 module _ (a : Arithmetic) (n : ℕ) (base q : PlainPiece) (i : ℕ) (r : PlainRow) (r_is : r ≡ get_or q i r) (in_q : i < length q) (whole : Marked (List PlainPiece)) (out : List PlainPiece)
     (b : IsBuilt whole out (cut_off a n base (drop i q))) where
   abbrev outside : Marked (Option PlainPiece)

@@ -1,8 +1,9 @@
 -- Steps of loops that join lists of pieces.
 use Rattle.std.proofs.Common.{◌≡◌, List, ◌++◌, sym, ap, ◌∙◌, append_assoc}
+use Rattle.std.proofs.lemmas.Bool.{or_left, or_right}
 use Rattle.lhg_math.specs.Tests.{false_true}
 use Rattle.lhg_num.specs.Marked.{Marked, and_then, valued}
-use Rattle.lhg_num.specs.MarkedLaws.{IsPart, IsBuilt, or_left, or_right, part_part, and_then-part}
+use Rattle.lhg_num.specs.MarkedLaws.{IsPart, IsBuilt, part_part, and_then-part}
 use Rattle.lhg_row.specs.Piece.{PlainPiece}
 use Rattle.lhg_row.specs.Lists.{is_past_list, counted_pieces}
 use Rattle.lhg_union.proofs.LimitSteps.{past-append}

@@ -1,6 +1,6 @@
 pub mod CutSteps
-pub mod Exact
 pub mod GatherSteps
+pub mod Halts
 pub mod LimitSteps
 pub mod ListFacts
 pub mod MeetFacts

@@ -1,10 +1,9 @@
 -- How many rows have the pieces of a list, and which lists are past their limits?
 use Rattle.std.proofs.Common.{◌≡◌, ℕ, ◌+◌, ◌-◌, ◌<◌, ◌≤◌, List, [], ◌∷◌, ◌++◌, length, drop, get_or, true, false, not, refl, sym, ap, ◌∙◌, arith}
 use Rattle.std.specs.Prelude.{nat_lt}
-use Rattle.std.proofs.lemmas.Bool.{lt-ltb, le-ltb, ltb-true, ltb-false}
+use Rattle.std.proofs.lemmas.Bool.{lt-ltb, le-ltb, ltb-true, ltb-false, or_left, or_right}
 use Rattle.std.proofs.lemmas.List.{length-append, drop_all}
 use Rattle.lhg_math.specs.Tests.{by_bool}
-use Rattle.lhg_num.specs.MarkedLaws.{or_left, or_right}
 use Rattle.lhg_row.specs.Piece.{PlainPiece}
 use Rattle.lhg_row.specs.System.{PlainSystem}
 use Rattle.lhg_row.specs.Lists.{piece_limit, list_row_limit, row_count, is_past_list}

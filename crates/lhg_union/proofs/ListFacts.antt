@@ -24,6 +24,11 @@ lines_of-append ps qs = map-append (λ (p : PlainSystem). p.lines) ps qs
 abbrev pub map_lines : Option PlainSystem → Option PlainPiece
 map_lines o = option_map (λ p. p.lines) o
 
+-- a piece that may be there stands before a list
+pub listed-append : (o : Option PlainPiece) (ps : List PlainPiece) → listed o ps ≡ listed o [] ++ ps
+listed-append None ps = refl
+listed-append (Some p) ps = refl
+
 -- the rows of a piece that may be there
 pub lines_of-as_list : (o : Option PlainSystem) (lines : Option PlainPiece) → map_lines o ≡ lines → lines_of (as_list o) ≡ listed lines []
 lines_of-as_list o lines e = on o ∙ ap (λ l. listed l []) e

@@ -1,5 +1,5 @@
 -- Steps of the loops that meet one piece with a list, and a list with a list.
-use Rattle.std.proofs.Common.{◌≡◌, ℕ, ◌+◌, ◌<◌, ◌≤◌, List, [], ◌∷◌, ◌++◌, length, map, drop, get_or, Option, Some, None, refl, sym, ap, ◌∙◌, subst, append-nil}
+use Rattle.std.proofs.Common.{◌≡◌, ℕ, ◌+◌, ◌<◌, ◌≤◌, List, [], ◌∷◌, ◌++◌, length, map, drop, get_or, refl, sym, ap, ◌∙◌, subst, append-nil}
 use Rattle.std.proofs.lemmas.List.{drop_all}
 use Rattle.lhg_num.specs.Arithmetic.{Arithmetic}
 use Rattle.lhg_num.specs.Marked.{Marked, and_then, valued}
@@ -12,12 +12,8 @@ use Rattle.lhg_row.specs.Lists.{listed, counted_pieces, meet_each, meet_lists}
 use Rattle.lhg_row.specs.MinusLaws.{all-append}
 use Rattle.lhg_row.proofs.Steps.{drop_cons}
 use Rattle.lhg_union.specs.PolyLists.{lines_of, AllVars}
-use Rattle.lhg_union.proofs.ListFacts.{lines_of-append, all_at}
+use Rattle.lhg_union.proofs.ListFacts.{listed-append, lines_of-append, all_at}
 use Rattle.lhg_union.proofs.GatherSteps.{more-part, more-step, counted-part, joined-part}
-
-listed-append : (o : Option PlainPiece) (ps : List PlainPiece) → listed o ps ≡ listed o [] ++ ps
-listed-append None ps = refl
-listed-append (Some p) ps = refl
 
 -- ---- one piece with a list
 -- the meets so far with the rows of each member of a list

@@ -18,7 +18,7 @@ as_list (Some p) = p ∷ []
 abbrev pub AllVars : ℕ → List PlainSystem → Type 0
 AllVars n ps = AllOf (λ p. p.width ≡ n) ps
 
--- each piece has trimmed rows and a point
+-- each piece has tidy rows and a point
 abbrev pub ArePolys : List PlainSystem → Type 0
 ArePolys ps = AllOf (λ p. IsPoly p.width p.lines) ps
 

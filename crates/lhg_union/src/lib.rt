@@ -4,7 +4,6 @@
 mod cutting;
 mod differences;
 mod intersections;
-pub mod laws;
 mod limits;
 mod regions;
 #[cfg(test)]

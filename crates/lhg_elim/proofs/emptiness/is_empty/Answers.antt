@@ -11,7 +11,7 @@ use Rattle.lhg_elim.proofs.emptiness.is_empty.Goals as goal
 pub returns-then-vars-eq0-clause-calculus : goal.returns-then-vars-eq0-clause-calculus
 returns-then-vars-eq0-clause-calculus g c =
     let s = c.args.sys.now in
-    let t = c.rows-rows.ensures.trimmed in
+    let t = c.rows-rows.ensures.tidy in
     empty-nothing g.N.Scalar.arithmetic s.width s.lines c.rows-rows.result.now c.is_empty.result (sym c.vars.ensures ∙ c.if-vars-eq0.true) t.wide t.tidy c.rows-rows.ensures.rows c.is_empty.ensures
 
 pub returns-then-vars-eq0-clause-points : goal.returns-then-vars-eq0-clause-points
@@ -19,7 +19,7 @@ returns-then-vars-eq0-clause-points g c =
     let a = g.N.Scalar.arithmetic in
     let laws : IsLawful a = g.met.N.Scalar.lawful in
     let s = c.args.sys.now in
-    let t = c.rows-rows.ensures.trimmed in
+    let t = c.rows-rows.ensures.tidy in
     let is : not c.is_empty.result ≡ (is_empty a s.width s.lines).value =
     empty-nothing a s.width s.lines c.rows-rows.result.now c.is_empty.result (sym c.vars.ensures ∙ c.if-vars-eq0.true) t.wide t.tidy c.rows-rows.ensures.rows c.is_empty.ensures in
     subst (IsEmptiness s.width s.lines) (sym is) (is_empty-exact a s.width s.lines laws t.wide t.tidy)
@@ -75,7 +75,7 @@ loop-alloc-preserved g c =
 pub returns-clause-calculus : goal.returns-clause-calculus
 returns-clause-calculus g c =
     let l = c.loop-alloc.left in
-    let t = c.rows.ensures.trimmed in
+    let t = c.rows.ensures.tidy in
     let e = c.vars-in-loop-alloc.ensures in
     let z = c.loop-alloc-test.false in
     empty-nothing g.N.Scalar.arithmetic l.width l.lines c.rows.result.now c.is_empty-2.result (omega arith) t.wide t.tidy c.rows.ensures.rows c.is_empty-2.ensures ∙ c.loop-alloc.invariant.same
@@ -85,9 +85,9 @@ returns-clause-points g c =
     let a = g.N.Scalar.arithmetic in
     let laws : IsLawful a = g.met.N.Scalar.lawful in
     let s = c.args.sys.now in
-    let u = c.rows-rows.ensures.trimmed in
+    let u = c.rows-rows.ensures.tidy in
     let l = c.loop-alloc.left in
-    let t = c.rows.ensures.trimmed in
+    let t = c.rows.ensures.tidy in
     let e = c.vars-in-loop-alloc.ensures in
     let z = c.loop-alloc-test.false in
     let is : not c.is_empty-2.result ≡ (is_empty a s.width s.lines).value =

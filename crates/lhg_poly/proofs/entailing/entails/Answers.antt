@@ -1,9 +1,9 @@
 use Rattle.std.proofs.Common.{ap, ◌∙◌, subst}
 use Rattle.lhg_num.specs.Halting.{IsHaltedByRows}
+use Rattle.lhg_num.proofs.Halted.{rows_exact}
 use Rattle.lhg_row.specs.Pieces.{entails}
 use Rattle.lhg_row.specs.PieceFacts.{IsEntailment}
 use Rattle.lhg_row.specs.EntailLaws.{entails-exact}
-use Rattle.lhg_poly.proofs.Exact.{rows_exact}
 use Rattle.lhg_poly.proofs.entailing.entails.Goals as goal
 
 pub returns-clause-points : goal.returns-clause-points

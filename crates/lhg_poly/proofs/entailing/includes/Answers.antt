@@ -4,7 +4,7 @@ use Rattle.lhg_row.specs.Pieces.{includes}
 use Rattle.lhg_row.specs.PieceFacts.{IsInclusion}
 use Rattle.lhg_row.specs.MeetLaws.{includes-exact}
 use Rattle.lhg_num.specs.Halting.{IsHaltedByRows}
-use Rattle.lhg_poly.proofs.Exact.{rows_exact}
+use Rattle.lhg_num.proofs.Halted.{rows_exact}
 use Rattle.lhg_poly.proofs.entailing.includes.Goals as goal
 
 pub returns-clause-points : goal.returns-clause-points

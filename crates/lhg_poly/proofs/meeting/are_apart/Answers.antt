@@ -1,9 +1,9 @@
 use Rattle.std.proofs.Common.{◌++◌, ap, ◌∙◌, subst}
 use Rattle.lhg_num.specs.Halting.{IsHaltedByRows}
+use Rattle.lhg_num.proofs.Halted.{rows_exact}
 use Rattle.lhg_row.specs.HasValue.{IsEmptiness}
 use Rattle.lhg_row.specs.Pieces.{are_empty}
 use Rattle.lhg_row.specs.EntailLaws.{are_empty-exact}
-use Rattle.lhg_poly.proofs.Exact.{rows_exact}
 use Rattle.lhg_poly.proofs.meeting.are_apart.Goals as goal
 
 pub returns-clause-points : goal.returns-clause-points

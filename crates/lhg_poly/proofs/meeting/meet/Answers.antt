@@ -1,11 +1,11 @@
 use Rattle.std.proofs.Common.{◌≡◌, length, ap, ◌∙◌, subst}
 use Rattle.std.specs.Prelude.{option_map}
 use Rattle.lhg_num.specs.Halting.{IsHaltedByRows}
+use Rattle.lhg_num.proofs.Halted.{rows_exact}
 use Rattle.lhg_row.specs.Pieces.{make, meet}
 use Rattle.lhg_row.specs.PieceFacts.{IsMeet}
 use Rattle.lhg_row.specs.MeetLaws.{meet-exact}
 use Rattle.lhg_row.specs.Members.{all_split}
-use Rattle.lhg_poly.proofs.Exact.{rows_exact}
 use Rattle.lhg_poly.proofs.meeting.meet.Goals as goal
 
 pub returns-clause-points : goal.returns-clause-points

@@ -1,10 +1,10 @@
 use Rattle.std.proofs.Common.{sym, subst, arith, ◌≡◌, ◌+◌, ◌-◌}
 use Rattle.std.specs.Prelude.{option_map}
+use Rattle.lhg_num.proofs.Halted.{rows_exact}
 use Rattle.lhg_row.specs.Width.{AllWide}
 use Rattle.lhg_row.specs.Pieces.{make}
 use Rattle.lhg_row.specs.PieceFacts.{IsProjection}
 use Rattle.lhg_row.specs.ProjectLaws.{eliminate_last-wide, project-exact}
-use Rattle.lhg_poly.proofs.Exact.{rows_exact}
 use Rattle.lhg_poly.proofs.projecting.project.Goals as goal
 
 pub make-requires : goal.make-requires
