@@ -1,5 +1,5 @@
 -- A refusal of a reader names the first line of the input that cannot stand in the text of a plant.
-use Rattle.std.proofs.Common.{◌≡◌, ◌+◌, ◌-◌, ℕ, List, [], ◌∷◌, ◌++◌, length, take, inl, inr, Some, refl, sym, ap, ◌∙◌, subst, arith, append_assoc, append-nil, length-append, take_at}
+use Rattle.std.proofs.Common.{◌≡◌, ◌+◌, ◌-◌, ℕ, List, [], ◌∷◌, ◌++◌, length, take, inl, inr, sym, ap, ◌∙◌, subst, arith, append_assoc, append-nil, length-append, take_at}
 use Rattle.std.specs.Prelude.{slice_get}
 use Rattle.std.specs.List.{AllByRecursion}
 use Rattle.lhg_lex.specs.LineTokens.{IsBlankLine}
@@ -12,6 +12,7 @@ use Rattle.lhg_read.specs.PlantText.{IsPlant, IsSomePlant, IsPlantText}
 use Rattle.lhg_read.specs.Rest.{HasSurplus}
 use Rattle.lhg_read.specs.TokenText.{IsTextBy, ReadsText, HasCause, fault_at}
 use Rattle.lhg_read.proofs.PlantEnds.{plant_text_laws}
+use Rattle.lhg_read.proofs.TokenTexts.{get_at}
 use Rattle.lhg_cli.specs.Refusal.{IsSomePlantText, IsBadAt, HasBadLine}
 
 -- the whole input is to be read
@@ -47,10 +48,6 @@ plant_refused bytes (Bad line column what) h =
     })
 
 -- ---- a line behind the plant is refused
-
-get_behind : (xs : List (List ℕ)) (y : List ℕ) (ys : List (List ℕ)) → slice_get (xs ++ y ∷ ys) (length xs) ≡ Some y
-get_behind [] y ys = refl
-get_behind (x ∷ xs) y ys = get_behind xs y ys
 
 -- a line among blank lines is blank
 blank_behind : (blanks : List (List ℕ)) (line : List ℕ) (more : List (List ℕ)) → AllByRecursion IsBlankLine (blanks ++ line ∷ more) → IsBlankLine line
@@ -98,5 +95,5 @@ module _ (bytes : List ℕ) (p : PlainPlant) (new : Reading) (r : ReadsText (λ 
                 h.not_blank (blank_behind blanks here c.0 (plant_text_laws.ends front (blanks ++ here ∷ c.0) p c.1.0 r.text text)),
           );
         };
-        fault = ap fault_at (ap (λ k. slice_get (lines_of bytes) k) place ∙ ap (λ ls. slice_get ls (length (front ++ blanks))) lines ∙ get_behind (front ++ blanks) here rest) ∙ h.fault;
+        fault = ap fault_at (ap (λ k. slice_get (lines_of bytes) k) place ∙ ap (λ ls. slice_get ls (length (front ++ blanks))) lines ∙ get_at (front ++ blanks) here rest) ∙ h.fault;
       }

@@ -49,7 +49,7 @@ pub record NamesBadLine (bytes text : List ℕ) : Type 0 where
   pub bad : IsBadAt bytes number what
   pub printed : text ≡ bad_line number what
 
--- the input is no text of the grammar
+-- the input is too long, or it is no text of the grammar and the answer names its first bad line
 abbrev pub IsRefusal : List ℕ → List ℕ → Type 0
 IsRefusal bytes text = IsTooLong bytes text ⊎ NamesBadLine bytes text
 

@@ -1,4 +1,4 @@
-// Answers plants in which nothing moves.
+// Does a plant stand still?
 ghost use Rattle.std.specs.Prelude.{◌≡◌, IfOk};
 ghost use Rattle.std.specs.Bool.{Decides};
 ghost use Rattle.lhg_plant.specs.Views.{plain_plant};

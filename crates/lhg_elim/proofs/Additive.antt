@@ -17,7 +17,7 @@ use Rattle.lhg_row.proofs.Steps.{drop_cons}
 abbrev pub both : {A : Type 0} → Marked (List A) → Marked (List A) → Marked (List A)
 both m n = and_then m (λ xs. valued (λ ys. xs ++ ys) n)
 
--- two values with the same marks are the same
+-- two calculations with the same value and the same marks are the same
 pub marked-is : {A : Type 0} (m n : Marked A) → m.value ≡ n.value → m.wide ≡ n.wide → m.rows ≡ n.rows → m.pieces ≡ n.pieces → m ≡ n
 marked-is m n e f g h = λ i. record { value = e i; wide = f i; rows = g i; pieces = h i }
 

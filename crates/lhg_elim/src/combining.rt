@@ -12,7 +12,8 @@ use lhg_row::scaling::{size, stricter, times};
 use std::alloc::Global;
 
 /// The row |s_k| * r + |r_k| * s, strict where either is. Where the coefficients at k have opposite signs, k cancels, and
-/// the row says of the other variables that some value of k satisfies both rows.
+/// the row says of the other variables that some value of k satisfies both rows. It halts for `Wide` only where the type
+/// refuses one of the products or sums, and for `Memory`.
 pub fn comb<N: Scalar>(alloc: Global, r: &Row<N>, s: &Row<N>, k: usize) -> Result<Row<N>, Halt>
     requires same { length r.now.coefs ≡ length s.now.coefs }
     requires there { k < length r.now.coefs }

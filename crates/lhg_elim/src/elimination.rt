@@ -16,6 +16,8 @@ use lhg_row::{Row, System, trim};
 use std::alloc::Global;
 
 /// The list over the variables other than k. It holds at a point exactly where some value of variable k satisfies the system.
+/// It halts for `Wide` only where the type refuses an operation of the calculus of this
+/// call, for `Rows` only where it has a list past `ROW_LIMIT`, and for `Memory`.
 pub fn eliminate<N: Scalar>(alloc: Global, sys: &System<N>, k: usize) -> Result<System<N>, Halt>
     requires { k < sys.now.width }
     ensures list { IsHaltedByRows result (calculus.eliminate N.arithmetic k sys.now.lines) (λ s. s.lines) }

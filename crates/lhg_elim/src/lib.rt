@@ -22,3 +22,4 @@ mod tests;
 pub use combining::comb;
 pub use elimination::eliminate;
 pub use emptiness::is_empty;
+pub use sides::{is_lower, is_upper};

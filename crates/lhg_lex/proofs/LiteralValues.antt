@@ -11,7 +11,7 @@ use Rattle.lhg_math.specs.Inverses.{quot-whole}
 use Rattle.lhg_lex.specs.Word.{is_digit}
 use Rattle.lhg_lex.specs.Digits.{all_digits, value_of}
 use Rattle.lhg_lex.specs.Literal.{whole_value, decimal_value, limit, decimal_digits}
-use Rattle.lhg_lex.specs.declared.stops.What.TheVariants.{LongNumber, ZeroDenominator}
+use Rattle.lhg_lex.specs.declared.stops.What.TheVariants.{ZeroDenominator}
 use Rattle.lhg_lex.proofs.Fronts.{list_all-append}
 use Rattle.lhg_lex.proofs.Values.{after-append, after_above, digit_value_is}
 use Rattle.lhg_lex.proofs.Bytes.{digit_from}
@@ -107,7 +107,3 @@ decimal_some n p first second short e is =
     let t = le-ltb decimal_digits (length first + length second) short in
     let z = (ten (length second) (omega arith)).1 in
     rw (t, is, z) (ap (λ m. Ok (quot (whole (pos m)) (whole (pos (10 ^ length second))))) k.0)
-
--- too many digits
-pub decimal_long : (first second : List ℕ) → decimal_digits < length first + length second → Err LongNumber ≡ decimal_value first second
-decimal_long first second h = let t = lt-ltb decimal_digits (length first + length second) h in rw t refl

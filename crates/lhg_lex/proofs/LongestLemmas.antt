@@ -115,7 +115,3 @@ none_longest (b ∷ w) some h k s = record { within = omega arith; token = λ l.
     longer zero l n = absurd (omega arith)
     longer (suc zero) l n = signs_token b [] h k ∙ s
     longer (suc (suc m)) l n = one_sign b w h k (λ _. pair_needs_sign b (get_or w 0 0) s) (suc (suc m)) (omega arith) n
-
--- at the end of the text no token stands
-pub end_longest : (text : List ℕ) → length text ≡ 0 → IsLongest text 0
-end_longest text e = record { within = omega arith; token = λ l. absurd (omega arith); greatest = λ m l n. absurd (omega (arith, e)) }

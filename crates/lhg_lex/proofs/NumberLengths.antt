@@ -1,7 +1,8 @@
 -- How long the number at the front of a text is.
-use Rattle.std.proofs.Common.{◌≡◌, ◌<◌, ◌≤◌, ◌+◌, ◌-◌, ℕ, zero, suc, List, [], ◌∷◌, length, take, drop, refl, sym, ap, ◌∙◌, subst, Bool, true, false, arith, ◌&&◌, get_or, ◌⊎◌, inl, inr, length-take, length-drop}
+use Rattle.std.proofs.Common.{◌≡◌, ◌<◌, ◌≤◌, ◌+◌, ◌-◌, ℕ, zero, suc, List, [], ◌∷◌, length, take, drop, refl, sym, ap, ◌∙◌, subst, true, false, arith, ◌&&◌, get_or, ◌⊎◌, inl, inr, length-take, length-drop}
 use Rattle.std.specs.List.{prefix_len}
 use Rattle.std.proofs.lemmas.List.Sums.{prefix_len-le-length}
+use Rattle.std.proofs.Math.Bool.{and-false}
 use Rattle.lhg_lex.specs.Word.{is_digit}
 use Rattle.lhg_lex.specs.Digits.{all_digits, is_run}
 use Rattle.lhg_lex.specs.Literal.{is_number, is_mark}
@@ -49,11 +50,7 @@ pub bare_longest : (text : List ℕ) (n part : ℕ) → n ≡ prefix_len is_digi
 bare_longest text n part is some h e z =
     let none : prefix_len is_digit (drop (suc n) text) ≡ 0 = ap (λ w. prefix_len is_digit w) (sym (rest_is text n)) ∙ sym e ∙ z in
     plain_by text n some h (subst (λ z. IsFirstRun text z) (sym is) (first_run_is text some h))
-    (λ k l. let z = no_digits (drop (suc n) text) k none (simp length-drop (omega arith)) in rw z (and_false (is_mark (get_or text n 0))))
-  where
-    and_false : (t : Bool) → (t && false) ≡ false
-    and_false true = refl
-    and_false false = refl
+    (λ k l. let z = no_digits (drop (suc n) text) k none (simp length-drop (omega arith)) in rw z (and-false (is_mark (get_or text n 0))))
 
 -- no more than the digits are a run
 run_fails : (w : List ℕ) (k : ℕ) → prefix_len is_digit w < k → k ≤ length w → is_run (take k w) ≡ false

@@ -24,7 +24,7 @@ no_signs b (c ∷ []) h = let s = pair_needs_sign b c (separator_not_sign b h) i
 no_signs b (c ∷ d ∷ w) h = refl
 
 -- no token begins with a separator
-token_begins : (b : ℕ) (w : List ℕ) (token : PlainToken) → said (b ∷ w) ≡ Ok token → is_separator b ≡ false
+pub token_begins : (b : ℕ) (w : List ℕ) (token : PlainToken) → said (b ∷ w) ≡ Ok token → is_separator b ≡ false
 token_begins b w token e = by_bool (is_separator b) (λ s. absurd (clash token (sym e ∙ signs_here b w (separator_not_word b s) (separator_not_digit b s) ∙ no_signs b w s))) (λ s. s)
   where
     clash : (token : PlainToken) → (let a : Result PlainToken What = Ok token in a ≡ Err BadByte) → ⊥

@@ -27,10 +27,6 @@ pub record IsPassed (bytes : List ℕ) (n m : ℕ) : Type 0 where
   pub blank : AllByRecursion IsBlankLine blanks
   pub count : m ≡ n + length blanks
 
--- no line is passed at first
-pub none_passed : (bytes : List ℕ) (n : ℕ) → IsPassed bytes n n
-none_passed bytes n = record { blanks = []; left = refl; blank = tt; count = omega arith }
-
 -- the line at a place
 abbrev pub line_at : List ℕ → ℕ → List ℕ
 line_at bytes place = before_first is_feed (drop place bytes)

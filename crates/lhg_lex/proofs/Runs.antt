@@ -4,6 +4,7 @@ use Rattle.lhg_math.specs.Tests.{by_bool}
 use Rattle.std.proofs.lemmas.Bool.{and_parts, true≢false}
 use Rattle.std.proofs.lemmas.Bool.Decides.{nat_tests}
 use Rattle.std.specs.List.{prefix_len, position_or_len}
+use Rattle.std.proofs.Math.Bool.{and-false}
 use Rattle.lhg_lex.specs.Word.{is_digit}
 use Rattle.lhg_lex.specs.Digits.{all_digits, is_run}
 use Rattle.lhg_lex.specs.Literal.{before, behind, is_parted, is_number, is_mark}
@@ -19,19 +20,10 @@ pub digits_from_run : (w : List ℕ) → is_run w ≡ true → all_digits w ≡ 
 digits_from_run [] h = refl
 digits_from_run (b ∷ w) h = h
 
--- a run has a digit
-pub some_from_run : (w : List ℕ) → is_run w ≡ true → 0 < length w
-some_from_run [] h = absurd cc
-some_from_run (b ∷ w) h = omega arith
-
 -- no run goes over a byte that is no digit
 pub run_stops : (a : List ℕ) (c : ℕ) (r : List ℕ) → is_digit c ≡ false → is_run (a ++ (c ∷ r)) ≡ false
 run_stops [] c r h = rw h refl
-run_stops (b ∷ a) c r h = list_all-append is_digit (b ∷ a) (c ∷ r) ∙ rw h (and_false (all_digits (b ∷ a)))
-  where
-    and_false : (t : Bool) → (t && false) ≡ false
-    and_false true = refl
-    and_false false = refl
+run_stops (b ∷ a) c r h = list_all-append is_digit (b ∷ a) (c ∷ r) ∙ rw h (and-false (all_digits (b ∷ a)))
 
 -- a digit is no other byte
 digit_apart : (d mark : ℕ) → is_digit d ≡ true → is_digit mark ≡ false → (d == mark) ≡ false
@@ -54,8 +46,8 @@ behind-run mark (d ∷ a) xs h k =
     rw (e, suc_is, add-one) (rw (add-one (position_or_len (λ b. b == mark) (a ++ xs))) at (behind-run mark a xs h p.1))
 
 -- the parts where the mark follows the digits
-at_mark : (mark : ℕ) (a : List ℕ) (c : ℕ) (r : List ℕ) → is_digit mark ≡ false → is_run a ≡ true → (c == mark) ≡ true → (before mark (a ++ (c ∷ r)) ≡ a) × (behind mark (a ++ (c ∷ r)) ≡ r)
-at_mark mark a c r h k e =
+pub parts_at : (mark : ℕ) (a : List ℕ) (c : ℕ) (r : List ℕ) → is_digit mark ≡ false → is_run a ≡ true → (c == mark) ≡ true → (before mark (a ++ (c ∷ r)) ≡ a) × (behind mark (a ++ (c ∷ r)) ≡ r)
+parts_at mark a c r h k e =
     let d = digits_from_run a k in
     let p : before mark (c ∷ r) ≡ [] = rw e refl in
     let q : behind mark (c ∷ r) ≡ r = rw e refl in
@@ -72,12 +64,8 @@ off_mark mark a c r h n k e =
 pub is_parted-at : (mark : ℕ) (a : List ℕ) (c : ℕ) (r : List ℕ) → is_digit mark ≡ false → is_digit c ≡ false → is_run a ≡ true → is_parted mark (a ++ (c ∷ r)) ≡ ((c == mark) && is_run r)
 is_parted-at mark a c r h n k =
     by_bool (c == mark)
-    (λ e. let p = at_mark mark a c r h k e in rw (e, p.0, p.1, k) refl)
+    (λ e. let p = parts_at mark a c r h k e in rw (e, p.0, p.1, k) refl)
     (λ e. let p = off_mark mark a c r h n k e in rw (e, p) refl)
-
--- the parts, where the byte is the mark
-pub parts_at : (mark : ℕ) (a : List ℕ) (c : ℕ) (r : List ℕ) → is_digit mark ≡ false → is_run a ≡ true → (c == mark) ≡ true → (before mark (a ++ (c ∷ r)) ≡ a) × (behind mark (a ++ (c ∷ r)) ≡ r)
-parts_at mark a c r h k e = at_mark mark a c r h k e
 
 -- either of two tests, with a third
 spread : (x y z : Bool) → ((x && z) || (y && z)) ≡ ((x || y) && z)

@@ -1,6 +1,6 @@
 -- The tokens of a line, step by step.
-use Rattle.std.proofs.Common.{◌≡◌, ◌<◌, ◌≤◌, ◌+◌, ◌-◌, ℕ, zero, suc, List, [], ◌∷◌, ◌++◌, length, take, drop, refl, sym, ap, ◌∙◌, subst, true, false, arith, get_or, Result, Ok, Err, map, append_assoc, append-nil, add-zero, add-one, length-drop, length-take}
-use Rattle.std.proofs.lemmas.List.{drop_more, drop-drop, take_rest, drop_all}
+use Rattle.std.proofs.Common.{◌≡◌, ◌<◌, ◌≤◌, ◌+◌, ◌-◌, ℕ, zero, suc, List, [], ◌∷◌, ◌++◌, length, take, drop, refl, sym, ap, ◌∙◌, subst, true, false, arith, get_or, Result, Ok, Err, map, append_assoc, add-zero, add-one, length-drop, length-take}
+use Rattle.std.proofs.lemmas.List.{drop_more, drop-drop, take_rest}
 use Rattle.lhg_lex.specs.PlainToken.{PlainToken}
 use Rattle.lhg_lex.specs.Token.{said, is_token}
 use Rattle.lhg_lex.specs.Longest.{longest, IsLongest}
@@ -93,14 +93,6 @@ pub record IsScanned (start : ℕ) (line : List ℕ) (tokens : List Token) (at :
   pub within : at ≤ length line
   pub same : followed tokens (all_placed start (tokens_from 0 at (drop at line))) ≡ all_placed start (tokens_from 0 0 line)
 
--- at first there are no tokens
-pub scan_start : (start : ℕ) (line : List ℕ) → IsScanned start line [] 0
-scan_start start line = record { within = omega arith; same = nothing (all_placed start (tokens_from 0 0 line)) }
-  where
-    nothing : (r : Result (List Token) Fault) → followed [] r ≡ r
-    nothing (Ok more) = refl
-    nothing (Err fault) = refl
-
 -- behind a separator
 pub scan_separator : (start : ℕ) (line : List ℕ) (tokens : List Token) (at : ℕ) → IsScanned start line tokens at → at < length line → is_separator (get_or line at 0) ≡ true → IsScanned start line tokens (at + 1)
 scan_separator start line tokens at s lt h = record {
@@ -142,11 +134,6 @@ scan_fault start line tokens at n what s lt h l e =
     let f = error_of_kind (said (take n (drop at line))) what (e ∙ ap (λ k. kind_said (said (take k (drop at line)))) size) in
     let g = fault_at line at what lt h (ap (λ k. said (take k (drop at line))) same ∙ f) in
     faulty start (tokens_from 0 0 line) (record { column = at + 1; what = what }) (sym s.same ∙ ap (λ r. followed tokens (all_placed start r)) g)
-
--- at the end of the line
-pub scan_end : (start : ℕ) (line : List ℕ) (tokens : List Token) (at : ℕ) → IsScanned start line tokens at → length line ≤ at → all_placed start (tokens_from 0 0 line) ≡ Ok tokens
-scan_end start line tokens at s past =
-    sym s.same ∙ ap (λ w. followed tokens (all_placed start (tokens_from 0 at w))) (drop_all at line past) ∙ ap (λ ts. Ok ts) (append-nil tokens)
 
 -- the bytes that are taken are a token, where there are some
 pub token_slice : (line : List ℕ) (at n : ℕ) → IsLongest (take (length line - at) (drop at line)) n → 0 < length (take (at + n - at) (drop at line)) → is_token (take (at + n - at) (drop at line)) ≡ true

@@ -57,16 +57,6 @@ first_line bytes some = go (cases_lt (position_or_len is_feed bytes) (length byt
         ∙ ap (λ w. w ∷ []) (sym all)
         ∙ ap (λ ws. before_first is_feed bytes ∷ ws) (sym (ap (λ w. lines_of w) (drop_all (length (before_first is_feed bytes) + 1) bytes (omega (arith, ap length all)))))
 
--- behind no lines
-no_lines : (n : ℕ) → start_of n [] ≡ 0
-no_lines zero = refl
-no_lines (suc n) = refl
-
--- no lines are left of none
-drop_none : (n : ℕ) → (let none : List (List ℕ) = [] in drop n none ≡ none)
-drop_none zero = refl
-drop_none (suc n) = refl
-
 -- the lines from the start of a line on
 pub lines_from : (n : ℕ) (bytes : List ℕ) → lines_of (drop (start_of n (lines_of bytes)) bytes) ≡ drop n (lines_of bytes)
 lines_from zero bytes = refl

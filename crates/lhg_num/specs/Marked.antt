@@ -6,7 +6,7 @@ use Rattle.lhg_num.specs.Limits.{frac_refuses_div, frac_refuses_mid}
 use Rattle.lhg_num.specs.Arithmetic.{Arithmetic}
 
 -- wide: some operation had operands that its type refuses. rows: some list of rows was past its limit.
--- pieces: some list of pieces or of records was past one of its limits
+-- pieces: some list of pieces was past one of its limits
 pub record Marked (A : Type 0) : Type 0 where
   pub value : A
   pub wide : Bool

@@ -1,4 +1,4 @@
-// What callers may rest on: the laws of scaling, of marks and of halts.
+// What callers may rest on: the laws of fractions, of scaling, of marks and of halts.
 ghost use Rattle.lhg_num.specs.Arithmetic.{IsLawful};
 ghost use Rattle.lhg_num.specs.FracArithmetic.{frac_arithmetic};
 ghost use Rattle.lhg_num.specs.Laws.{ScaledLaws, MarkedLaws, HaltLaws};

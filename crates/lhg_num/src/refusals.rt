@@ -26,7 +26,7 @@ pub enum Halt {
     /// A list of rows is past its limit.
     #[error("Rows")]
     Rows,
-    /// A list of pieces or of records is past its limit.
+    /// A list of pieces is past one of its limits.
     #[error("Pieces")]
     Pieces,
     /// Memory is out.

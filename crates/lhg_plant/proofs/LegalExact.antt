@@ -1,7 +1,7 @@
 -- The truth that is formed of a state, a flow or a switch is whether it is legal.
 use Rattle.std.proofs.Common.{◌≡◌, ◌↔◌, ◌==◌, ℕ, List, [], ◌∷◌, ◌++◌, length, map, refl, sym, ap, ◌∙◌, subst, Bool, true, false, cond, not, ◌&&◌, eq-eqb, Option, Some, None, IsSomeAnd, slice_get, Result, Ok, Err}
 use Rattle.std.specs.Prelude.{IfOk, IsTrue}
-use Rattle.std.proofs.lemmas.Bool.{eqb-true}
+use Rattle.std.proofs.lemmas.Bool.{eqb-true, and_parts, and_from}
 use Rattle.lhg_math.specs.Number.{Number, add, mul, sub, lt, nought, compare}
 use Rattle.lhg_math.specs.NumberRing.{mul_assoc, mul_comm}
 use Rattle.lhg_math.specs.Tests.{by_bool, false_true}
@@ -22,16 +22,6 @@ use Rattle.lhg_plant.specs.State.{PlainState, IsState}
 use Rattle.lhg_plant.specs.Legal.{LegalFlow, LegalSwitchTo}
 use Rattle.lhg_plant.specs.LegalTruths.{told_of, marked_change, flow_row_truth, flow_rows_truth, state_truth, flow_truth, legal_flow_truth, switch_truth, legal_switch_truth}
 use Rattle.lhg_plant.proofs.Options.{some_weaken}
-
--- ---- tests
-
-both : (x y : Bool) → (x && y) ≡ true → (x ≡ true) × (y ≡ true)
-both true y h = (refl, h)
-both false y h = false_true h
-
-and_true : (x y : Bool) → x ≡ true → y ≡ true → (x && y) ≡ true
-and_true true y h k = k
-and_true false y h k = h
 
 -- what is told of the value is whether the fact holds of it
 told-exact : {A : Type 0} (f : A → Marked Bool) (P : A → Type 0) → ((x : A) → ((f x).value ≡ true) ↔ P x) → (o : Option A) → ((told_of f o).value ≡ true) ↔ IsSomeAnd o P
@@ -89,8 +79,8 @@ module _ (a : Arithmetic) (l : PlainLocation) (x : PlainPoint) (t : Number) (y :
       by_bool (lt nought t)
       (λ h.
       let k : ((piece_truth a l.inv x).value && ((piece_truth a l.inv y).value && (flow_rows_truth a l.flow x t y).value)) ≡ true = rw h at e in
-      let p = both (piece_truth a l.inv x).value _ k in
-      let q = both (piece_truth a l.inv y).value _ p.1 in
+      let p = and_parts (piece_truth a l.inv x).value _ k in
+      let q = and_parts (piece_truth a l.inv y).value _ p.1 in
       let free : IsFlow [] [] x t y = speed_flow [] [] x t y (record { takes_time = h; from_in = tt; to_in = tt; same_length = long; allowed = tt }) in
       record {
         takes_time = h;
@@ -107,8 +97,8 @@ module _ (a : Arithmetic) (l : PlainLocation) (x : PlainPoint) (t : Number) (y :
   legal_flows f =
       let h = f.takes_time in
       rw h
-      (and_true (piece_truth a l.inv x).value _ (in_rows l.inv x a f.from_in)
-      (and_true (piece_truth a l.inv y).value _ (in_rows l.inv y a f.to_in)
+      (and_from (piece_truth a l.inv x).value _ (in_rows l.inv x a f.from_in)
+      (and_from (piece_truth a l.inv y).value _ (in_rows l.inv y a f.to_in)
       (rows-speed a x t y f.speed f.takes_time f.slope l.flow ∙ (in_piece_is l.flow f.speed).0 f.allowed)))
 
 -- ---- states, flows and switches of a plant
@@ -134,8 +124,8 @@ module _ (a : Arithmetic) (p : PlainPlant) where
         by_bool (w.from == s.loc)
         (λ h.
         let m : ((state_truth a p s).value && ((state_truth a p (entered w.to)).value && (piece_truth a w.jump (s.at ++ y)).value)) ≡ true = rw h at k in
-        let u = both (state_truth a p s).value _ m in
-        let v = both (state_truth a p (entered w.to)).value _ u.1 in (
+        let u = and_parts (state_truth a p s).value _ m in
+        let v = and_parts (state_truth a p (entered w.to)).value _ u.1 in (
           w.to,
           record {
             switch = w;
@@ -157,8 +147,8 @@ module _ (a : Arithmetic) (p : PlainPlant) where
         let result : IsState p (entered w.to) = subst (λ m. IsState p (entered m)) (sym h.enters) h.result in
         ap (λ o. (told_of (λ w. switch_truth a p w s y) o).value) h.is_there
         ∙ rw leaves
-        (and_true (state_truth a p s).value _ ((state_exact s fits).1 h.start)
-        (and_true (state_truth a p (entered w.to)).value _ ((state_exact (entered w.to) ends).1 result) (in_rows w.jump (s.at ++ y) a h.jump)))
+        (and_from (state_truth a p s).value _ ((state_exact s fits).1 h.start)
+        (and_from (state_truth a p (entered w.to)).value _ ((state_exact (entered w.to) ends).1 result) (in_rows w.jump (s.at ++ y) a h.jump)))
 
     pub switch_exact : ((legal_switch_truth a p e s y).value ≡ true) ↔ LegalSwitchTo p e s y
     switch_exact = (switch_legal (slice_get p.switches e) refl, legal_switches)

@@ -6,11 +6,6 @@ pub some_weaken : {A : Type 0} (P Q : A → Type 0) → ((x : A) → P x → Q x
 some_weaken P Q f None h = h
 some_weaken P Q f (Some x) h = f x h
 
--- two facts of the value give a third
-pub some_both : {A : Type 0} (P Q R : A → Type 0) → ((x : A) → P x → Q x → R x) → (o : Option A) → IsSomeAnd o P → IsSomeAnd o Q → IsSomeAnd o R
-some_both P Q R f None h k = h
-some_both P Q R f (Some x) h k = f x h k
-
 -- a fact that does not speak of the value
 pub some_out : {A : Type 0} (P : A → Type 0) (R : Type 0) → ((x : A) → P x → R) → (o : Option A) → IsSomeAnd o P → R
 some_out P R f None h = absurd h

@@ -1,19 +1,17 @@
 -- The pieces of the safe region hold exactly the safe states.
-use Rattle.std.proofs.Common.{◌≡◌, ◌↔◌, ◌&&◌, ℕ, zero, suc, List, [], ◌∷◌, length, map, get_or, slice_get, IsSomeAnd, true, sym, ap, ◌∙◌, subst}
+use Rattle.std.proofs.Common.{◌≡◌, ◌↔◌, ◌&&◌, ℕ, zero, suc, List, [], ◌∷◌, length, map, get_or, slice_get, IsSomeAnd, sym, ap, ◌∙◌, subst}
 use Rattle.lhg_num.specs.FracArithmetic.{frac_arithmetic, frac_is_lawful}
-use Rattle.lhg_num.specs.Marked.{each}
 use Rattle.lhg_num.specs.MarkedLaws.{each-value}
 use Rattle.lhg_row.specs.Row.{PlainPoint}
-use Rattle.lhg_row.specs.Piece.{PlainPiece, InPiece, InSome, in_piece, in_some}
+use Rattle.lhg_row.specs.Piece.{PlainPiece, InPiece, InSome, in_some}
 use Rattle.lhg_row.specs.PieceLemmas.{in_piece_is, in_some_is}
-use Rattle.lhg_row.specs.Lists.{meet_each}
 use Rattle.lhg_row.specs.MeetListsLaws.{meet_each-points}
 use Rattle.lhg_row.specs.Members.{AllOf}
 use Rattle.lhg_plant.specs.Plant.{PlainLocation, PlainPlant}
 use Rattle.lhg_plant.specs.Proper.{IsLine, IsLocation, IsProper}
 use Rattle.lhg_plant.specs.Region.{InRegion}
 use Rattle.lhg_plant.specs.SafeRegion.{safe_list, safe_region}
-use Rattle.lhg_plant.specs.State.{PlainState, IsState, IsSafe}
+use Rattle.lhg_plant.specs.State.{PlainState, IsSafe}
 
 module _ (n : ℕ) (x : PlainPoint) (fits : length x ≡ n) where
   wide_lines : (lines : List PlainPiece) → AllOf (IsLine n) lines → AllOf (AllOf (λ r. length r.coefs ≡ n)) lines

@@ -15,7 +15,8 @@ mod tests;
 
 pub use legal::{in_invariant, legal_flow, legal_switch};
 pub use limits::{
-    MOST_LINE_ROWS, MOST_LOCATIONS, MOST_NAME_BYTES, MOST_SAFE_LINES, MOST_SWITCHES, MOST_VARIABLES,
+    MOST_LINE_ROWS, MOST_LOCATIONS, MOST_NAME_BYTES, MOST_SAFE_LINES, MOST_SWITCHES,
+    MOST_VARIABLES, law_limits,
 };
 pub use names::Name;
 pub use plants::{Location, Plant, Side, Switch};

@@ -12,7 +12,9 @@ use lhg_num::{Halt, Scalar};
 use lhg_row::{Row, negate, trim};
 use std::alloc::Global;
 
-/// Whether the row holds at each point of the piece.
+/// Whether the row, over the variables of the piece, holds at each point of it.
+/// It halts for `Wide` only where the type refuses an operation of the calculus of this call,
+/// for `Rows` only where it has a list past `ROW_LIMIT`, and for `Memory`.
 pub fn entails<N: Scalar>(alloc: Global, p: &Poly<N>, row: &Row<N>) -> Result<bool, Halt>
     requires { length row.now.coefs ≡ p.now.width }
     ensures calculus { IsHaltedByRows result (calculus.entails N.arithmetic p.now.width p.now.lines row.now) (λ b. b) }
@@ -21,7 +23,9 @@ pub fn entails<N: Scalar>(alloc: Global, p: &Poly<N>, row: &Row<N>) -> Result<bo
     entailed(alloc, p.vars(), p.rows(), row)
 }
 
-/// Whether each point of q is one of p.
+/// Whether each point of q is one of p; both are over the same variables.
+/// It halts for `Wide` only where the type refuses an operation of the calculus of this call,
+/// for `Rows` only where it has a list past `ROW_LIMIT`, and for `Memory`.
 pub fn includes<N: Scalar>(alloc: Global, p: &Poly<N>, q: &Poly<N>) -> Result<bool, Halt>
     requires { p.now.width ≡ q.now.width }
     ensures calculus { IsHaltedByRows result (calculus.includes N.arithmetic q.now.width p.now.lines q.now.lines) (λ b. b) }

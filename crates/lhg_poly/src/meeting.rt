@@ -16,7 +16,9 @@ use lhg_num::{Halt, Scalar};
 use lhg_row::{Row, relax};
 use std::alloc::Global;
 
-/// The common points of two pieces, and none where there is no common point.
+/// The common points of two pieces over the same variables, and none where there is no common point.
+/// It halts for `Wide` only where the type refuses an operation of the calculus of this call,
+/// for `Rows` only where it has a list past `ROW_LIMIT`, and for `Memory`.
 pub fn meet<N: Scalar>(alloc: Global, p: &Poly<N>, q: &Poly<N>) -> Result<Option<Poly<N>>, Halt>
     requires { p.now.width ≡ q.now.width }
     ensures calculus { IsHaltedByRows result (calculus.meet N.arithmetic p.now.width p.now.lines q.now.lines) (option_map (λ m. m.lines)) }
@@ -27,7 +29,9 @@ pub fn meet<N: Scalar>(alloc: Global, p: &Poly<N>, q: &Poly<N>) -> Result<Option
     make(alloc, p.vars(), rows)
 }
 
-/// Whether two pieces have no common point.
+/// Whether two pieces over the same variables have no common point.
+/// It halts for `Wide` only where the type refuses an operation of the calculus of this call,
+/// for `Rows` only where it has a list past `ROW_LIMIT`, and for `Memory`.
 pub fn are_apart<N: Scalar>(alloc: Global, p: &Poly<N>, q: &Poly<N>) -> Result<bool, Halt>
     requires { p.now.width ≡ q.now.width }
     ensures calculus { IsHaltedByRows result (calculus.are_empty N.arithmetic p.now.width (p.now.lines ++ q.now.lines)) (λ b. b) }
@@ -38,6 +42,8 @@ pub fn are_apart<N: Scalar>(alloc: Global, p: &Poly<N>, q: &Poly<N>) -> Result<b
 }
 
 /// The points at which all relaxed rows hold.
+/// It halts for `Wide` only where the type refuses an operation of the calculus of this call,
+/// for `Rows` only where it has a list past `ROW_LIMIT`, and for `Memory`.
 pub fn closure<N: Scalar>(alloc: Global, p: &Poly<N>) -> Result<Poly<N>, Halt>
     ensures calculus { IsHaltedByRows result (calculus.closure N.arithmetic p.now.width p.now.lines) (λ c. Some c.lines) }
     ensures vars { IfOk result (λ c. c.width ≡ p.now.width) }

@@ -55,7 +55,7 @@ impl<N: Scalar> Poly<N> {
         &self.system
     }
 
-    /// A copy.
+    /// A copy. It halts for `Memory` alone.
     pub fn copy(&self, alloc: Global) -> Result<Poly<N>, Halt>
         ensures copy { IsHaltedByMemory result (done self.now) (λ p. p) }
         ensures poly { IsPoly self.now.width self.now.lines }

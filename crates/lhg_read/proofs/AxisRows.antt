@@ -1,6 +1,7 @@
 -- The coefficients of one variable, written into zeros.
 use Rattle.std.proofs.Common.{◌≡◌, ◌<◌, ◌+◌, ◌-◌, ℕ, zero, suc, List, [], ◌∷◌, ◌++◌, length, replicate, set, refl, sym, ap, ◌∙◌, arith, append_assoc, zero-add}
 use Rattle.std.proofs.lemmas.List.{length-replicate}
+use Rattle.std.proofs.Math.Numerals.{suc-eq-add-one}
 use Rattle.lhg_math.specs.Number.{Number, nought, neg, unit}
 use Rattle.lhg_row.specs.Piece.{PlainPiece}
 use Rattle.lhg_plant.specs.Still.{axis, axis_row, still_from}
@@ -46,24 +47,15 @@ change_set n v a b h =
     length_set (x ∷ xs) (suc i) c = ap suc (length_set xs i c)
 
 -- ---- the turns of the loops
+-- the variables that are left, as one and the others
+left : (n v : ℕ) → v < n → n - v ≡ suc (n - (v + 1))
+left n v h = omega arith
 
 pub still_more : (n v : ℕ) → v < n → still_from n v (n - v) ≡ axis_row n v unit ∷ axis_row n v (neg unit) ∷ still_from n (v + 1) (n - (v + 1))
-still_more n v h = ap (still_from n v) (left n v h) ∙ ap (λ k. axis_row n v unit ∷ axis_row n v (neg unit) ∷ still_from n k (n - (v + 1))) (next v)
-  where
-    left : (n v : ℕ) → v < n → n - v ≡ suc (n - (v + 1))
-    left n v h = omega arith
-
-    next : (v : ℕ) → suc v ≡ v + 1
-    next v = omega arith
+still_more n v h = ap (still_from n v) (left n v h) ∙ ap (λ k. axis_row n v unit ∷ axis_row n v (neg unit) ∷ still_from n k (n - (v + 1))) (suc-eq-add-one v)
 
 pub keep_more : (n v : ℕ) → v < n → keep_from n v (n - v) ≡ change_row n v (neg unit) unit ∷ change_row n v unit (neg unit) ∷ keep_from n (v + 1) (n - (v + 1))
-keep_more n v h = ap (keep_from n v) (left n v h) ∙ ap (λ k. change_row n v (neg unit) unit ∷ change_row n v unit (neg unit) ∷ keep_from n k (n - (v + 1))) (next v)
-  where
-    left : (n v : ℕ) → v < n → n - v ≡ suc (n - (v + 1))
-    left n v h = omega arith
-
-    next : (v : ℕ) → suc v ≡ v + 1
-    next v = omega arith
+keep_more n v h = ap (keep_from n v) (left n v h) ∙ ap (λ k. change_row n v (neg unit) unit ∷ change_row n v unit (neg unit) ∷ keep_from n k (n - (v + 1))) (suc-eq-add-one v)
 
 -- rows that are pushed come before the rest
 pub pushed : (old new pair rest : PlainPiece) → new ≡ old ++ pair → old ++ (pair ++ rest) ≡ new ++ rest

@@ -3,6 +3,7 @@ use Rattle.std.proofs.Common.{◌≡◌, ◌<◌, ◌≤◌, ◌+◌, ◌-◌, i
 use Rattle.std.specs.List.{position_or_len}
 use Rattle.std.specs.Option.{option_and_then, is_some}
 use Rattle.std.proofs.lemmas.List.{take_rest, take_all, length-drop}
+use Rattle.std.proofs.lemmas.Bool.{cases_lt}
 use Rattle.lhg_row.specs.Piece.{PlainPiece}
 use Rattle.lhg_lex.specs.PlainToken.{PlainToken}
 use Rattle.lhg_lex.specs.TextTokens.{plain_of}
@@ -18,7 +19,8 @@ use Rattle.lhg_read.specs.Pair.{pair_rows, pair_of}
 use Rattle.lhg_read.specs.Rows.{chain_of}
 use Rattle.lhg_read.specs.declared.forms.Form.{Form}
 use Rattle.lhg_read.proofs.Cuts.{IsBlind, behind, ahead, only_part, first_part, last_part, inner_part}
-use Rattle.lhg_read.proofs.SumSteps.{some_or_all, a_token}
+use Rattle.lhg_read.proofs.SumSteps.{a_token}
+use Rattle.lhg_read.proofs.ListSteps.{joined_none}
 
 -- operators are told without the text
 same_operator : (text : List ℕ) (from to : ℕ) (kind : Tok) → operator_of (plain_of text (record { kind = kind; from = from; to = to })) ≡ operator_of (plain_of [] (record { kind = kind; from = from; to = to }))
@@ -41,10 +43,6 @@ pair_blind form vars left text op right =
 -- the rows of a chain that is cut
 abbrev pub chain_at : Form → List (List ℕ) → Cut PlainToken → Option PlainPiece
 chain_at form vars c = chain_of form vars c.first c.others
-
-joined_none : (a : Option PlainPiece) → joined a None ≡ None
-joined_none None = refl
-joined_none (Some rows) = refl
 
 -- what is appended twice is appended once
 together : (old mid new : PlainPiece) (a b : Option PlainPiece) → joined (Some old) a ≡ Some mid → joined (Some mid) b ≡ Some new → joined (Some old) (joined a b) ≡ Some new
@@ -104,9 +102,9 @@ module _ (form : Form) (vars : List (List ℕ)) (text : List ℕ) (tokens : List
 
     -- where the first two are no pair
     pub no_pair : two ≡ None → all ≡ None
-    no_pair h = elim (some_or_all (length tokens) (first + 1 + n)) [
-      | inl past ↦ at_most past ∙ h
-      | inr more ↦ beyond a_token more ∙ first_none form vars left (plain_of text op) (behind middle _ _) (pair_blind form vars left text op middle ∙ h)
+    no_pair h = elim (cases_lt (first + 1 + n) (length tokens)) [
+      | inl more ↦ beyond a_token more ∙ first_none form vars left (plain_of text op) (behind middle _ _) (pair_blind form vars left text op middle ∙ h)
+      | inr past ↦ at_most past ∙ h
     ]
 
     module _ (more : first + 1 + n < length tokens) (m : ℕ) (far : m ≡ ahead is_operator tokens (first + 1 + n + 1)) where

@@ -4,7 +4,7 @@ use Rattle.std.specs.Prelude.{nat_lt}
 use Rattle.std.specs.List.{list_any, position, position_or_len}
 use Rattle.std.specs.Str.{bytes_eq}
 use Rattle.std.proofs.lemmas.List.{length-map}
-use Rattle.std.proofs.lemmas.Bool.Decides.{nat_tests}
+use Rattle.std.proofs.lemmas.Bool.{lt-ltb}
 use Rattle.lhg_plant.specs.declared.plants.Location.{Location}
 use Rattle.lhg_plant.specs.declared.plants.Switch.{Switch}
 use Rattle.lhg_plant.specs.Plant.{PlainLocation}
@@ -56,14 +56,11 @@ safe_last (x ∷ y ∷ locs) (suc last) l e g = safe_last (y ∷ locs) last l (o
 
 -- ---- tests
 
-below : (m n : ℕ) → m < n → nat_lt m n ≡ true
-below m n h = grind (arith, nat_tests, h)
-
 -- whether a location may begin, where no switch has come and there is room
 pub begin_is : (locs : List Location) (switches : List Switch) (w : List ℕ) → length switches ≡ 0 → length locs < 64
     → not (list_any (λ l. bytes_eq l.name w) locs) ≡ (is_nil (map plain_switch switches) && (nat_lt (length (map plain_location locs)) 64 && not (is_among w (loc_names (map plain_location locs)))))
 begin_is locs [] w e h =
-    let room : nat_lt (length (map plain_location locs)) 64 ≡ true = ap (λ k. nat_lt k 64) (length-map locs plain_location) ∙ below (length locs) 64 h in
+    let room : nat_lt (length (map plain_location locs)) 64 ≡ true = ap (λ k. nat_lt k 64) (length-map locs plain_location) ∙ lt-ltb (length locs) 64 h in
     rw room (ap not (among_locs w locs))
 begin_is locs (s ∷ switches) w e h = absurd (omega arith)
 
@@ -72,5 +69,5 @@ pub switch_is : (locs : List Location) (switches : List Switch) (w : List ℕ) �
     → not (list_any (λ s. bytes_eq s.name w) switches) ≡ (not (is_nil (map plain_location locs)) && (nat_lt (length (map plain_switch switches)) 256 && not (is_among w (switch_names (map plain_switch switches)))))
 switch_is [] switches w e h = absurd (omega arith)
 switch_is (l ∷ locs) switches w e h =
-    let room : nat_lt (length (map plain_switch switches)) 256 ≡ true = ap (λ k. nat_lt k 256) (length-map switches plain_switch) ∙ below (length switches) 256 h in
+    let room : nat_lt (length (map plain_switch switches)) 256 ≡ true = ap (λ k. nat_lt k 256) (length-map switches plain_switch) ∙ lt-ltb (length switches) 256 h in
     rw room (ap not (among_switches w switches))

@@ -1,6 +1,6 @@
 -- The head of a plant is told by its tokens.
 use Rattle.std.proofs.Common.{◌≡◌, ◌+◌, ◌-◌, ◌==◌, ℕ, List, [], ◌∷◌, map, refl, sym, ap, ◌∙◌, Bool, true, false, ◌&&◌, arith, codes}
-use Rattle.std.proofs.lemmas.Bool.{eqb-true}
+use Rattle.std.proofs.lemmas.Bool.{eqb-true, and_parts}
 use Rattle.std.proofs.lemmas.Slice.Eq.{bytes_eq-Decides}
 use Rattle.lhg_math.specs.Number.{unit}
 use Rattle.lhg_math.specs.Signs.{same_number}
@@ -15,10 +15,6 @@ use Rattle.lhg_lex.specs.declared.tokens.Line.{Line}
 use Rattle.lhg_read.specs.Signs.{is_word}
 use Rattle.lhg_read.specs.PlantText.{said_in, IsHead}
 use Rattle.lhg_read.specs.HeadTest.{is_unit, head_test}
-
-both : (x y : Bool) → (x && y) ≡ true → (x ≡ true) × (y ≡ true)
-both true y h = (refl, h)
-both false y h = absurd cc
 
 -- the same test on the tokens of the line
 abbrev spots_test : List Spot → Bool
@@ -65,8 +61,8 @@ spots_head : (spots : List Spot) → spots_test spots ≡ true → IsHead spots
 spots_head [] e = absurd cc
 spots_head (x ∷ []) e = absurd cc
 spots_head (x ∷ y ∷ []) e =
-    let a = both (is_word (codes "lhg") x.says) (is_unit y.says && (y.to - y.from == 1)) e in
-    let b = both (is_unit y.says) (y.to - y.from == 1) a.1 in
+    let a = and_parts (is_word (codes "lhg") x.says) (is_unit y.says && (y.to - y.from == 1)) e in
+    let b = and_parts (is_unit y.says) (y.to - y.from == 1) a.1 in
     let d = eqb-true (y.to - y.from) 1 b.1 in
     let end : y.to ≡ y.from + 1 = omega (arith, d) in
     record {

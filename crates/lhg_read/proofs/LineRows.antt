@@ -6,9 +6,10 @@ use Rattle.std.proofs.lemmas.Bool.Decides.{nat_tests}
 use Rattle.std.proofs.lemmas.List.{length-map, length-replicate}
 use Rattle.std.proofs.lemmas.List.FromFn.{length-map-range_with_len, get_or-map-range_with_len}
 use Rattle.std.proofs.lemmas.Option.{none-some, same_Some, cond_some, option_and_then_some}
+use Rattle.std.proofs.lemmas.Bool.{and_parts}
 use Rattle.lhg_math.specs.Number.{Number, neg, nought, unit}
 use Rattle.lhg_math.specs.Signs.{is_nought, lead}
-use Rattle.lhg_math.specs.SignLaws.{is_nought-nought}
+use Rattle.lhg_math.specs.SignLaws.{is_nought-nought, is_nought-neg}
 use Rattle.lhg_math.specs.Tests.{Every, by_bool}
 use Rattle.lhg_row.specs.Constant.{varies}
 use Rattle.lhg_row.specs.Row.{PlainRow}
@@ -35,7 +36,7 @@ use Rattle.lhg_read.specs.declared.terms.Term.{Term}
 use Rattle.lhg_read.proofs.Answered.{both_joined}
 use Rattle.lhg_read.proofs.Collecting.{IsSound}
 use Rattle.lhg_read.proofs.PairRows.{some_variable}
-use Rattle.lhg_read.proofs.PairSteps.{Of, sum_sound, all_opposite, all_joined, nought-neg, unit_sound}
+use Rattle.lhg_read.proofs.PairSteps.{Of, sum_sound, all_opposite, all_joined, unit_sound}
 
 -- n coefficients, of which one is not 0
 pub record IsFull (n : ℕ) (r : PlainRow) : Type 0 where
@@ -80,8 +81,8 @@ lead-neg : (xs : List Number) → is_nought (lead (map neg xs)) ≡ is_nought (l
 lead-neg [] = refl
 lead-neg (x ∷ xs) =
     by_bool (is_nought x)
-    (λ t. ap (λ b. is_nought (cond b (lead (map neg xs)) (neg x))) (nought-neg x ∙ t) ∙ lead-neg xs ∙ ap (λ b. is_nought (cond b (lead xs) x)) (sym t))
-    (λ t. ap (λ b. is_nought (cond b (lead (map neg xs)) (neg x))) (nought-neg x ∙ t) ∙ nought-neg x ∙ ap (λ b. is_nought (cond b (lead xs) x)) (sym t))
+    (λ t. ap (λ b. is_nought (cond b (lead (map neg xs)) (neg x))) (is_nought-neg x ∙ t) ∙ lead-neg xs ∙ ap (λ b. is_nought (cond b (lead xs) x)) (sym t))
+    (λ t. ap (λ b. is_nought (cond b (lead (map neg xs)) (neg x))) (is_nought-neg x ∙ t) ∙ is_nought-neg x ∙ ap (λ b. is_nought (cond b (lead xs) x)) (sym t))
 
 -- ---- rows of stillness and of `keep`
 
@@ -96,7 +97,7 @@ axis-lead (suc n) zero c h e = ap (λ b. is_nought (cond b (lead (replicate n no
 axis-lead (suc n) (suc v) c h e = ap (λ b. is_nought (cond b (lead (axis n v c)) nought)) is_nought-nought ∙ axis-lead n v c (omega arith) e
 
 minus_unit : is_nought (neg unit) ≡ false
-minus_unit = nought-neg unit ∙ unit_sound
+minus_unit = is_nought-neg unit ∙ unit_sound
 
 axis_full : (n v : ℕ) (c : Number) → v < n → is_nought c ≡ false → IsFull n (record { coefs = axis n v c; strict = false; bound = nought })
 axis_full n v c h e = record { wide = axis-length n v c; varies = ap not (axis-lead n v c h e) }
@@ -142,16 +143,12 @@ row_full n terms sound some strict =
     let here : get_or (row_of n strict terms).coefs v.0 nought ≡ factor_in (is_at v.0) terms = get_or-map-range_with_len (λ i. factor_in (is_at i) terms) 0 n v.0 v.0 nought v.1 (omega arith) in
     record { wide = long; varies = ap not (lead_some (row_of n strict terms).coefs v.0 (omega (arith, v.1, long)) (ap is_nought here ∙ v.2)) }
 
-both : (x y : Bool) → (x && y) ≡ true → (x ≡ true) × (y ≡ true)
-both true y h = (refl, h)
-both false y h = absurd cc
-
 pair_full : (n : ℕ) (op : Operator) (a b : List Term) (rows : PlainPiece) → AllOf (IsSound n) a → AllOf (IsSound n) b → pair_rows n op a b ≡ Some rows → AllOf (IsFull n) rows
 pair_full n op a b rows h k e =
     let terms = a ++ map opposite b in
     let c = cond_some (is_proper n terms) (rows_by op (λ strict. row_of n strict terms)) rows e in
-    let proper = both _ _ c.0 in
-    let some = both _ _ proper.1 in
+    let proper = and_parts _ _ c.0 in
+    let some = and_parts _ _ proper.1 in
     subst (λ r. AllOf (IsFull n) r) c.1 (by_full n op (λ strict. row_of n strict terms) (row_full n terms (all_joined n a (map opposite b) h (all_opposite n b k)) some.1))
 
 -- ---- constraints
@@ -191,7 +188,7 @@ constraint_full : (form : Form) (vars : List (List ℕ)) (tokens : List PlainTok
 unfolding constraint_of
 constraint_full form vars tokens rows e =
     by_bool (is_jump form && is_one_word (codes "keep") tokens)
-    (λ t. let k : Some (keep_rows (length vars)) ≡ Some rows = rw t at e in subst (λ r. AllOf (IsFull (width form vars)) r) (same_Some _ rows k) (jump_keep form vars (both (is_jump form) _ t).0))
+    (λ t. let k : Some (keep_rows (length vars)) ≡ Some rows = rw t at e in subst (λ r. AllOf (IsFull (width form vars)) r) (same_Some _ rows k) (jump_keep form vars (and_parts (is_jump form) _ t).0))
     (λ t. let k : chain_of form vars (cut is_operator tokens).first (cut is_operator tokens).others ≡ Some rows = rw t at e in chain_full form vars (cut is_operator tokens).first (cut is_operator tokens).others rows k)
 
 constraints_full : (form : Form) (vars : List (List ℕ)) (parts : List (List PlainToken)) → Full (width form vars) (constraints_of form vars parts)
@@ -221,5 +218,5 @@ rows_read form vars tokens rows few e =
     (λ t. let k : Some [] ≡ Some rows = rw t at e in subst (λ r. AreRead (width form vars) r) (same_Some [] rows k) (read_rows (width form vars) [] tt (omega arith)))
     (λ t. let k : cond (is_flow form && is_one_word (codes "still") tokens) (Some (still_rows (length vars))) (list_of form vars tokens) ≡ Some rows = rw t at e in
     by_bool (is_flow form && is_one_word (codes "still") tokens)
-    (λ s. let m : Some (still_rows (length vars)) ≡ Some rows = rw s at k in subst (λ r. AreRead (width form vars) r) (same_Some _ rows m) (flow_still form vars (both (is_flow form) _ s).0 few))
+    (λ s. let m : Some (still_rows (length vars)) ≡ Some rows = rw s at k in subst (λ r. AreRead (width form vars) r) (same_Some _ rows m) (flow_still form vars (and_parts (is_flow form) _ s).0 few))
     (λ s. let m : list_of form vars tokens ≡ Some rows = rw s at k in limited (width form vars) (constraints_of form vars (parts_of (cut is_comma tokens))) rows (constraints_full form vars (parts_of (cut is_comma tokens))) m))

@@ -2,6 +2,7 @@
 use Rattle.std.proofs.Common.{◌≡◌, ◌<◌, ◌≤◌, ◌+◌, ◌-◌, inl, inr, ℕ, List, [], ◌++◌, length, take, drop, map, refl, sym, ap, ◌∙◌, true, false, Option, Some, None, arith, append_assoc, append-nil, length-append, nat_le}
 use Rattle.std.specs.Option.{option_and_then}
 use Rattle.std.proofs.lemmas.Bool.Decides.{nat_tests}
+use Rattle.std.proofs.lemmas.Bool.{cases_lt}
 use Rattle.lhg_row.specs.Piece.{PlainPiece}
 use Rattle.lhg_lex.specs.PlainToken.{PlainToken}
 use Rattle.lhg_lex.specs.TextTokens.{plain_of}
@@ -14,7 +15,7 @@ use Rattle.lhg_read.specs.Signs.{is_comma}
 use Rattle.lhg_read.specs.Rows.{constraint_of, constraints_of, within_limit}
 use Rattle.lhg_read.specs.declared.forms.Form.{Form}
 use Rattle.lhg_read.proofs.Cuts.{IsBlind, ahead, last_part, inner_part}
-use Rattle.lhg_read.proofs.SumSteps.{some_or_all, a_token}
+use Rattle.lhg_read.proofs.SumSteps.{a_token}
 
 comma_by_kind : (text : List ℕ) (from to : ℕ) (kind : Tok) → is_comma (plain_of text (record { kind = kind; from = from; to = to })) ≡ is_comma (plain_of [] (record { kind = kind; from = from; to = to }))
 comma_by_kind text from to tok.Word = refl
@@ -39,14 +40,9 @@ joined_assoc (Some x) None c = refl
 joined_assoc (Some x) (Some y) None = refl
 joined_assoc (Some x) (Some y) (Some z) = ap (λ r. Some r) (append_assoc x y z)
 
-joined_none : (a : Option PlainPiece) → joined a None ≡ None
+pub joined_none : (a : Option PlainPiece) → joined a None ≡ None
 joined_none None = refl
 joined_none (Some rows) = refl
-
--- nothing is read before the first constraint
-pub joined_nil : (o : Option PlainPiece) → o ≡ joined (Some []) o
-joined_nil None = refl
-joined_nil (Some rows) = refl
 
 module _ (form : Form) (vars : List (List ℕ)) (text : List ℕ) (tokens : List Token) (at n : ℕ) (within : at ≤ length tokens) (is : n ≡ ahead is_comma tokens at) where
   -- the constraint up to the next comma
@@ -64,9 +60,9 @@ module _ (form : Form) (vars : List (List ℕ)) (text : List ℕ) (tokens : List
 
   -- here and what follows, whatever that is
   begins : (rest : Option PlainPiece) × (now ≡ joined here rest)
-  begins = elim (some_or_all (length tokens) (at + n)) [
-    | inl past ↦ (Some [], last_here past ∙ sym (joined_one here))
-    | inr more ↦ (_, more_here a_token more)
+  begins = elim (cases_lt (at + n) (length tokens)) [
+    | inl more ↦ (_, more_here a_token more)
+    | inr past ↦ (Some [], last_here past ∙ sym (joined_one here))
   ]
 
   module _ (all : Option PlainPiece) (old : PlainPiece) (left : all ≡ joined (Some old) now) where

@@ -1,12 +1,12 @@
 -- The rows of a pair are those of its terms, put one after another.
-use Rattle.std.proofs.Common.{◌≡◌, ◌<◌, ◌≤◌, ◌+◌, ◌==◌, ℕ, zero, suc, List, [], ◌∷◌, ◌++◌, length, map, replicate, refl, sym, ap, ◌∙◌, subst, Bool, true, false, not, cond, ◌&&◌, arith, get_or, Option, Some, None, nat_le}
+use Rattle.std.proofs.Common.{◌≡◌, ◌<◌, ◌≤◌, ◌+◌, ◌==◌, ℕ, zero, suc, List, [], ◌∷◌, ◌++◌, length, map, refl, sym, ap, ◌∙◌, subst, Bool, true, false, not, cond, ◌&&◌, arith, get_or, Option, Some, None, nat_le}
 use Rattle.std.specs.Prelude.{count_by}
 use Rattle.std.specs.List.{list_all, list_any, range_with_len}
 use Rattle.std.specs.Option.{option_and_then, unwrap_or}
 use Rattle.std.proofs.lemmas.List.{length-replicate}
 use Rattle.std.proofs.lemmas.List.Folds.{list_any_at, list_any_none}
 use Rattle.std.proofs.lemmas.List.FromFn.{fill_by_all}
-use Rattle.std.proofs.lemmas.Bool.{eqb-true}
+use Rattle.std.proofs.lemmas.Bool.{eqb-true, and_parts}
 use Rattle.std.proofs.lemmas.Bool.Decides.{nat_tests}
 use Rattle.lhg_math.specs.Number.{Number, neg, nought}
 use Rattle.lhg_math.specs.Signs.{is_nought}
@@ -14,6 +14,7 @@ use Rattle.lhg_math.specs.SignLaws.{is_nought-nought}
 use Rattle.lhg_math.specs.Tests.{by_bool}
 use Rattle.lhg_row.specs.Row.{PlainRow}
 use Rattle.lhg_row.specs.Members.{AllOf}
+use Rattle.lhg_row.specs.NothingLaws.{noughts-get_or}
 use Rattle.lhg_read.specs.Sum.{opposite}
 use Rattle.lhg_read.specs.Pair.{is_at, is_alone, factor_in, is_proper, row_of, rows_by, pair_rows, opposite_row}
 use Rattle.lhg_read.specs.Collect.{Collected, none_of, with_terms, has_variable, row_from, rows_from}
@@ -22,10 +23,6 @@ use Rattle.lhg_read.specs.declared.operators.Operator.TheVariants.{Less, AtMost,
 use Rattle.lhg_read.specs.declared.terms.Term.{Term}
 use Rattle.lhg_read.specs.declared.terms.Term.TheVariants.{Times, Alone}
 use Rattle.lhg_read.proofs.Collecting.{IsSound, Fit, Make, Answers, collects, seen, same_eq, count-cons}
-
-both : (x y : Bool) → (x && y) ≡ true → (x ≡ true) × (y ≡ true)
-both true y h = (refl, h)
-both false y h = absurd cc
 
 -- ---- tests over a range of numbers
 
@@ -36,7 +33,7 @@ range_all f a (suc n) h = rw (h a (omega arith) (omega arith)) (range_all f (a +
 range_each : (f : ℕ → Bool) (a n i : ℕ) → list_all f (range_with_len a n) ≡ true → a ≤ i → i < a + n → f i ≡ true
 range_each f a zero i h low high = absurd (omega arith)
 range_each f a (suc n) i h low high =
-    let k = both (f a) (list_all f (range_with_len (a + 1) n)) h in
+    let k = and_parts (f a) (list_all f (range_with_len (a + 1) n)) h in
     by_bool (a == i)
     (λ e. let s : a ≡ i = eqb-true a i e in subst (λ (m : ℕ). f m ≡ true) s k.0)
     (λ e. range_each f (a + 1) n i k.1 (grind (arith, nat_tests, e)) (omega arith))
@@ -78,13 +75,7 @@ same_rows Greater f g s w = ap (λ r. opposite_row r ∷ []) s
 -- ---- a collection that began with no term
 
 none_factor : (n i : ℕ) → is_nought (get_or (none_of n).coefs i nought) ≡ true
-none_factor n i = ap is_nought (zeros n i) ∙ is_nought-nought
-  where
-    zeros : (n i : ℕ) → get_or (replicate n nought) i nought ≡ nought
-    zeros zero zero = refl
-    zeros zero (suc i) = refl
-    zeros (suc n) zero = refl
-    zeros (suc n) (suc i) = zeros n i
+none_factor n i = ap is_nought (noughts-get_or n i) ∙ is_nought-nought
 
 module _ (n : ℕ) (ts : List Term) where
   none_seen : (i : ℕ) → seen (none_of n) i ≡ 0
@@ -100,8 +91,8 @@ module _ (n : ℕ) (ts : List Term) where
   -- and the other way round
   fits : is_proper n ts ≡ true → Fit n (none_of n) ts
   fits h =
-      let k = both (list_all (λ i. nat_le (count_by (is_at i) ts) 1) (range_with_len 0 n)) (nat_le (count_by is_alone ts) 1 && list_any (λ term. not (is_alone term)) ts) h in
-      let l = both (nat_le (count_by is_alone ts) 1) (list_any (λ term. not (is_alone term)) ts) k.1 in
+      let k = and_parts (list_all (λ i. nat_le (count_by (is_at i) ts) 1) (range_with_len 0 n)) (nat_le (count_by is_alone ts) 1 && list_any (λ term. not (is_alone term)) ts) h in
+      let l = and_parts (nat_le (count_by is_alone ts) 1) (list_any (λ term. not (is_alone term)) ts) k.1 in
       record {
         once = λ i below. let o = range_each (λ i. nat_le (count_by (is_at i) ts) 1) 0 n i k.0 (omega arith) (omega arith) in let s = none_seen i in let m : count_by (is_at i) ts ≤ 1 = grind (arith, nat_tests, o) in omega (arith, m, s);
         alone = grind (arith, nat_tests, l.0);

@@ -3,11 +3,11 @@ use Rattle.std.proofs.Common.{◌≡◌, ◌<◌, ℕ, List, [], ◌∷◌, ◌+
 use Rattle.std.specs.Option.{option_and_then, option_map}
 use Rattle.std.specs.Str.{bytes_eq}
 use Rattle.std.proofs.lemmas.List.Quantifiers.{position-Some}
-use Rattle.lhg_math.specs.Number.{Number, neg, nought, unit, lt}
-use Rattle.lhg_math.specs.NumberOrder.{lt-nought_neg, nought_unit}
-use Rattle.lhg_math.specs.Places.{neg-lt_nought}
+use Rattle.std.proofs.lemmas.Bool.{and_parts, not-true}
+use Rattle.lhg_math.specs.Number.{Number, unit}
+use Rattle.lhg_math.specs.NumberOrder.{nought_unit}
 use Rattle.lhg_math.specs.Signs.{is_nought}
-use Rattle.lhg_math.specs.SignLaws.{is_nought-positive}
+use Rattle.lhg_math.specs.SignLaws.{is_nought-positive, is_nought-neg}
 use Rattle.lhg_math.specs.Tests.{by_bool}
 use Rattle.lhg_row.specs.Members.{AllOf}
 use Rattle.lhg_row.specs.Piece.{PlainPiece}
@@ -69,19 +69,11 @@ times_sound n q (Some i) e h = (h, e)
 pub unit_sound : is_nought unit ≡ false
 unit_sound = is_nought-positive unit nought_unit
 
-both : (x y : Bool) → (x && y) ≡ true → (x ≡ true) × (y ≡ true)
-both true y h = (refl, h)
-both false y h = absurd cc
-
-not_true : (b : Bool) → not b ≡ true → b ≡ false
-not_true true e = absurd cc
-not_true false e = refl
-
 term_sound : (form : Form) (vars : List (List ℕ)) (tokens : List PlainToken) → Of (IsSound (width form vars)) (term_of form vars tokens)
 term_sound form vars (number q ∷ []) = tt
 term_sound form vars (number q ∷ star ∷ tokens) =
     by_bool (is_sign 42 star && not (is_nought q))
-    (λ e. rw e (times_sound (width form vars) q (variable_of form vars tokens) (not_true (is_nought q) (both (is_sign 42 star) (not (is_nought q)) e).1) (variable_below form vars tokens)))
+    (λ e. rw e (times_sound (width form vars) q (variable_of form vars tokens) (not-true (is_nought q) (and_parts (is_sign 42 star) (not (is_nought q)) e).1) (variable_below form vars tokens)))
     (λ e. rw e tt)
 term_sound form vars [] = times_sound (width form vars) unit (variable_of form vars []) unit_sound (variable_below form vars [])
 term_sound form vars (word w ∷ ts) = times_sound (width form vars) unit (variable_of form vars (word w ∷ ts)) unit_sound (variable_below form vars (word w ∷ ts))
@@ -90,17 +82,8 @@ term_sound form vars (two_signs b c ∷ ts) = times_sound (width form vars) unit
 
 -- ---- sums are sound
 
-pub nought-neg : (q : Number) → is_nought (neg q) ≡ is_nought q
-nought-neg q = rw (neg-lt_nought q, lt-nought_neg q) (swap (lt nought q) (lt q nought))
-  where
-    swap : (x y : Bool) → (not x && not y) ≡ (not y && not x)
-    swap true true = refl
-    swap true false = refl
-    swap false true = refl
-    swap false false = refl
-
 opposite_sound : (n : ℕ) (t : Term) → IsSound n t → IsSound n (opposite t)
-opposite_sound n (Times q i) h = (h.0, nought-neg q ∙ h.1)
+opposite_sound n (Times q i) h = (h.0, is_nought-neg q ∙ h.1)
 opposite_sound n (Alone q) h = tt
 
 signed_sound : (n : ℕ) (minus : Bool) (t : Term) → IsSound n t → IsSound n (signed minus t)

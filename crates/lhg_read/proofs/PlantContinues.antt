@@ -1,7 +1,7 @@
 -- From each state of the reader some further lines make a plant.
 use Rattle.std.proofs.Common.{◌≡◌, ◌≤◌, ℕ, List, [], ◌∷◌, ◌++◌, length, map, refl, sym, ap, ◌∙◌, subst, true, false, cond, Some, None, Ok, arith, append_assoc, append-nil, length-append, codes}
 use Rattle.std.specs.Option.{option_and_then}
-use Rattle.std.proofs.lemmas.List.{length-map}
+use Rattle.std.proofs.lemmas.List.{length-map, map-append}
 use Rattle.lhg_math.specs.Number.{unit}
 use Rattle.lhg_math.specs.Tests.{false_true}
 use Rattle.lhg_lex.specs.PlainToken.{PlainToken, word, number}
@@ -13,7 +13,7 @@ use Rattle.lhg_read.specs.PlantText.{location_of, said_in, IsHead, IsPlant, IsSo
 use Rattle.lhg_read.specs.PlantSteps.{PlainDraft, empty_draft, is_nil, taken, all_taken, plant_with}
 use Rattle.lhg_read.specs.TokenText.{token_line, token_lines}
 use Rattle.lhg_read.specs.Begun.{IsBegun}
-use Rattle.lhg_read.proofs.PlantParts.{map-append, not_nil}
+use Rattle.lhg_read.proofs.PlantParts.{not_nil}
 use Rattle.lhg_read.proofs.PlantStates.{State, nothing, stands, ends, states, going_on}
 use Rattle.lhg_read.proofs.PlantTexts.{Say, say_all, plant_of_begun}
 use Rattle.lhg_read.proofs.PlantRefusals.{all_taken-append}
@@ -21,10 +21,11 @@ use Rattle.lhg_read.proofs.TokenTexts.{CanGoOn}
 
 -- ---- four lines
 
-spot : PlainToken → ℕ → ℕ → Spot
+pub spot : PlainToken → ℕ → ℕ → Spot
 spot says from to = record { says = says; from = from; to = to }
 
-head_spots : List Spot
+-- the head line
+unfoldable pub head_spots : List Spot
 head_spots = spot (word (codes "lhg")) 0 3 ∷ spot (number unit) 4 5 ∷ []
 
 vars_spots : List Spot
@@ -36,9 +37,15 @@ loc_spots = spot (word (codes "loc")) 0 3 ∷ spot (word (codes "x")) 4 5 ∷ []
 end_spots : List Spot
 end_spots = spot (word (codes "end")) 0 3 ∷ []
 
-head_tokens : tokens_of (codes "lhg 1") ≡ Ok head_spots
+-- it says the head
+pub head_tokens : tokens_of (codes "lhg 1") ≡ Ok head_spots
 unfolding longest tokens_of unit spot head_spots
 head_tokens = refl
+
+-- and is one
+pub head_is : IsHead head_spots
+unfolding spot head_spots
+head_is = record { from = 0; to = 3; at = 4; is = refl }
 
 vars_tokens : tokens_of (codes "vars x") ≡ Ok vars_spots
 unfolding longest tokens_of spot vars_spots
@@ -123,7 +130,7 @@ from_head head h =
 -- at the beginning, by the head
 pub from_nothing : CanGoOn IsSomePlant []
 unfolding spot head_spots
-from_nothing = on_by IsSomePlant [] (codes "lhg 1") head_spots head_tokens refl (from_head head_spots (record { from = 0; to = 3; at = 4; is = refl }))
+from_nothing = on_by IsSomePlant [] (codes "lhg 1") head_spots head_tokens refl (from_head head_spots head_is)
 
 -- ---- limits
 

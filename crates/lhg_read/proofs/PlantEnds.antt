@@ -1,6 +1,7 @@
 -- Behind the text of a plant stand only blank lines.
 use Rattle.std.proofs.Common.{◌≡◌, ℕ, List, [], ◌∷◌, ◌++◌, map, refl, sym, ap, ◌∙◌, subst, true, Option, Some, None, Result, Ok, Err, append-nil}
 use Rattle.std.specs.List.{AllByRecursion}
+use Rattle.std.proofs.lemmas.Option.{same_Some}
 use Rattle.lhg_lex.specs.LineTokens.{Spot, Fault, tokens_of, IsBlankLine}
 use Rattle.lhg_plant.specs.Plant.{PlainPlant}
 use Rattle.lhg_read.specs.Options.{joined}
@@ -29,9 +30,6 @@ no_more tokens more p q h k =
 
 -- ---- lines
 
-same_tokens : (s t : List (List Spot)) → Some s ≡ Some t → s ≡ t
-same_tokens s t e = cc
-
 -- lines without tokens are blank
 by_parts : (line : List ℕ) (lines : List (List ℕ)) (r : Result (List Spot) Fault) (o : Option (List (List Spot))) → tokens_of line ≡ r → token_lines lines ≡ o → (o ≡ Some [] → AllByRecursion IsBlankLine lines) → joined (token_line r) o ≡ Some []
     → AllByRecursion IsBlankLine (line ∷ lines)
@@ -56,7 +54,7 @@ goes_on lines more p h b = record {
 ends : (lines more : List (List ℕ)) (p q : PlainPlant) → IsPlantText lines p → IsPlantText (lines ++ more) q → AllByRecursion IsBlankLine more
 ends lines more p q h k =
     let parts = parts_of lines more k.tokens k.are in
-    let first : parts.first ≡ h.tokens = same_tokens _ _ (sym parts.first_are ∙ h.are) in
+    let first : parts.first ≡ h.tokens = same_Some _ _ (sym parts.first_are ∙ h.are) in
     let whole : k.tokens ≡ h.tokens ++ parts.second = parts.whole ∙ ap (λ ts. ts ++ parts.second) first in
     let none = no_more h.tokens parts.second p q h.is (subst (λ t. IsPlant t q) whole k.is) in
     blank_of more (parts.second_are ∙ ap (λ ts. Some ts) none)

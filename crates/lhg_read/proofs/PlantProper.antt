@@ -7,6 +7,7 @@ use Rattle.std.proofs.lemmas.Bool.Decides.{nat_tests}
 use Rattle.std.proofs.lemmas.List.{length-map}
 use Rattle.std.proofs.lemmas.Option.{none-some, same_Some, cond_some, option_and_then_some}
 use Rattle.std.proofs.lemmas.Slice.Eq.{bytes_eq-Decides}
+use Rattle.std.proofs.lemmas.Bool.{and_parts}
 use Rattle.lhg_math.specs.Tests.{Every}
 use Rattle.lhg_row.specs.Constant.{varies}
 use Rattle.lhg_row.specs.Piece.{PlainPiece}
@@ -82,15 +83,11 @@ record AreVariables (vars : List (List ℕ)) : Type 0 where
   few : length vars ≤ 6
   differ : all_differ vars ≡ true
 
-both : (x y : Bool) → (x && y) ≡ true → (x ≡ true) × (y ≡ true)
-both true y h = (refl, h)
-both false y h = absurd cc
-
 proper_are : (names vars : List (List ℕ)) → AllOf IsVariable names → proper_variables names ≡ Some vars → AreVariables vars
 proper_are names vars h e =
     let c = cond_some (nat_le 1 (length names) && (nat_le (length names) 6 && all_differ names)) names vars e in
-    let a = both (nat_le 1 (length names)) _ c.0 in
-    let b = both (nat_le (length names) 6) (all_differ names) a.1 in
+    let a = and_parts (nat_le 1 (length names)) _ c.0 in
+    let b = and_parts (nat_le (length names) 6) (all_differ names) a.1 in
     subst (λ ns. AreVariables ns) c.1
     (record { each = h; some = let t = a.0 in grind (arith, nat_tests, t); few = let t = b.0 in grind (arith, nat_tests, t); differ = b.1 })
 

@@ -1,11 +1,10 @@
 -- A plant is read line by line: what holds between two lines, and at each end.
-use Rattle.std.proofs.Common.{◌≡◌, ◌<◌, ◌≤◌, ◌+◌, ◌-◌, inl, inr, ℕ, List, [], ◌∷◌, ◌++◌, length, map, refl, sym, ap, ◌∙◌, subst, true, false, Option, Some, None, arith}
+use Rattle.std.proofs.Common.{◌≡◌, ◌≤◌, ◌+◌, inl, inr, ℕ, List, [], ◌∷◌, ◌++◌, length, map, refl, sym, ap, ◌∙◌, subst, true, false, Option, Some, None}
 use Rattle.std.specs.List.{All}
-use Rattle.std.proofs.lemmas.List.{length-drop}
 use Rattle.lhg_lex.specs.Lines.{lines_of}
 use Rattle.lhg_lex.specs.LineTokens.{Spot}
 use Rattle.lhg_lex.specs.TextTokens.{plain_of}
-use Rattle.lhg_lex.specs.Reading.{Reading, left_of, IsTokenLine}
+use Rattle.lhg_lex.specs.Reading.{Reading, IsTokenLine}
 use Rattle.lhg_lex.specs.declared.stops.ReadStop.{ReadStop}
 use Rattle.lhg_lex.specs.declared.stops.ReadStop.TheVariants.{Bad, Memory}
 use Rattle.lhg_lex.specs.declared.stops.What.TheVariants.{NotHere}
@@ -79,16 +78,6 @@ pub said_is : (s : Reading) (line : Line) (h : IsTokenLine s line) → map (plai
 said_is s line h = ap (λ l. l.tokens) h.says
 
 -- ---- fewer lines are left
-
--- the number of lines that are left falls
-pub left_falls : (s : Reading) (line : Line) (new : Reading) → IsTokenLine s line → new ≡ record s { read = line.number } → length (left_of new) < length (left_of s)
-left_falls s line new h e =
-    let a = length-drop s.read (lines_of s.bytes) in
-    let b : length (left_of new) ≡ length (lines_of s.bytes) - line.number = ap (λ x. length (left_of x)) e ∙ length-drop line.number (lines_of s.bytes) in
-    let c = h.counted in
-    let d = h.next.count in
-    let f = h.next.within in
-    omega (arith, a, b, c, d, f)
 
 -- ---- between two lines
 

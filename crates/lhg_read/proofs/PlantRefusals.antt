@@ -1,6 +1,8 @@
 -- Where the lines so far cannot go on.
 use Rattle.std.proofs.Common.{◌≡◌, ℕ, List, [], ◌∷◌, ◌++◌, map, refl, sym, ap, ◌∙◌, subst, Bool, true, false, cond, Option, Some, None}
 use Rattle.std.specs.Option.{option_and_then}
+use Rattle.std.proofs.lemmas.List.{map-append}
+use Rattle.std.proofs.lemmas.Option.{none-some, same_Some}
 use Rattle.lhg_math.specs.Tests.{false_true}
 use Rattle.lhg_lex.specs.PlainToken.{PlainToken}
 use Rattle.lhg_lex.specs.LineTokens.{Spot}
@@ -9,12 +11,8 @@ use Rattle.lhg_read.specs.Names.{vars_of}
 use Rattle.lhg_read.specs.PlantText.{said_in, IsHead, IsPlant, IsSomePlant}
 use Rattle.lhg_read.specs.PlantSteps.{PlainDraft, empty_draft, taken, all_taken, plant_with}
 use Rattle.lhg_read.specs.Begun.{IsBegun}
-use Rattle.lhg_read.proofs.PlantParts.{map-append}
 use Rattle.lhg_read.proofs.PlantStates.{ended_none}
 use Rattle.lhg_read.proofs.PlantTexts.{begun_of_plant}
-
-none_some : {P : Type 0} (e : PlainDraft) → (let x : Option PlainDraft = None in x ≡ Some e) → P
-none_some e h = absurd cc
 
 -- lines behind other lines
 pub all_taken-append : (vars : List (List ℕ)) (d : PlainDraft) (xs ys : List (List PlainToken)) → all_taken vars d (xs ++ ys) ≡ option_and_then (λ e. all_taken vars e ys) (all_taken vars d xs)
@@ -45,11 +43,12 @@ no_head line more p bad h = bad (subst (λ l. IsHead l) (first line h.head more 
     first : (a b : List Spot) (xs ys : List (List Spot)) → a ∷ xs ≡ b ∷ ys → b ≡ a
     first a b xs ys e = cc
 
+-- one line is not two or more
+one_line : (a b c : List Spot) (xs : List (List Spot)) → a ∷ [] ≡ b ∷ c ∷ xs → ⊥
+one_line a b c xs e = cc
+
 pub not_head_alone : (line : List Spot) (p : PlainPlant) → ¬ IsPlant (line ∷ []) p
-not_head_alone line p h = let e = h.lines_are in absurd (clash line h.head h.vars h.rest e)
-  where
-    clash : (a b c : List Spot) (xs : List (List Spot)) → a ∷ [] ≡ b ∷ c ∷ xs → ⊥
-    clash a b c xs e = cc
+not_head_alone line p h = let e = h.lines_are in absurd (one_line line h.head h.vars h.rest e)
 
 pub no_vars : (head line : List Spot) (more : List (List Spot)) (p : PlainPlant) → vars_of (said_in line) ≡ None → ¬ IsPlant (head ∷ line ∷ more) p
 no_vars head line more p bad h =
@@ -67,10 +66,7 @@ none_at_start (x ∷ a) b e h = absurd cc
 pub none_at_head : (head : List Spot) (a b : List (List Spot)) → head ∷ [] ≡ a ++ b → ¬ IsSomePlant a
 none_at_head head [] b e h = not_empty h.0 h.1
 none_at_head head (x ∷ []) b e h = not_head_alone x h.0 h.1
-none_at_head head (x ∷ y ∷ a) b e h = clash head x y (a ++ b) e
-  where
-    clash : (u v w : List Spot) (xs : List (List Spot)) → u ∷ [] ≡ v ∷ w ∷ xs → ⊥
-    clash u v w xs e = cc
+none_at_head head (x ∷ y ∷ a) b e h = one_line head x y (a ++ b) e
 
 -- ---- behind the variables
 
@@ -92,7 +88,7 @@ module _ (lines : List (List Spot)) (vars : List (List ℕ)) (d : PlainDraft) (b
   pub no_line : (line : List Spot) (more : List (List Spot)) (p : PlainPlant) → taken vars d (said_in line) ≡ None → ¬ IsPlant (lines ++ line ∷ more) p
   no_line line more p bad h =
       let g = goes_on (line ∷ more) p h in
-      none_some g.0 (sym (by_end d.ended) ∙ ap (λ o. cond d.ended None (option_and_then (λ x. all_taken vars x (map said_in more)) o)) (sym bad) ∙ g.1)
+      absurd (none-some g.0 (sym (by_end d.ended) ∙ ap (λ o. cond d.ended None (option_and_then (λ x. all_taken vars x (map said_in more)) o)) (sym bad) ∙ g.1))
     where
       by_end : (b : Bool) → cond b None (let x : Option PlainDraft = None in x) ≡ None
       by_end true = refl
@@ -102,19 +98,16 @@ module _ (lines : List (List Spot)) (vars : List (List ℕ)) (d : PlainDraft) (b
   pub no_end : (p : PlainPlant) → d.ended ≡ false → ¬ IsPlant lines p
   no_end p going h =
       let g = goes_on [] p (subst (λ ls. IsPlant ls p) (sym (plain lines)) h) in
-      let e : d ≡ g.0 = same d g.0 g.1 in
+      let e : d ≡ g.0 = same_Some d g.0 g.1 in
       false_true (sym going ∙ ap (λ (x : PlainDraft). x.ended) e ∙ g.2)
     where
       plain : (xs : List (List Spot)) → xs ++ [] ≡ xs
       plain [] = refl
       plain (x ∷ xs) = ap (λ ys. x ∷ ys) (plain xs)
 
-      same : (x y : PlainDraft) → Some x ≡ Some y → x ≡ y
-      same x y e = cc
-
   -- lines that have ended are a plant, and no further line with tokens is one too
   pub no_more : (line : List Spot) (more : List (List Spot)) (p : PlainPlant) → d.ended ≡ true → ¬ IsPlant (lines ++ line ∷ more) p
-  no_more line more p ended h = let g = goes_on (line ∷ more) p h in none_some g.0 (sym (ended_none d.ended _ ended) ∙ g.1)
+  no_more line more p ended h = let g = goes_on (line ∷ more) p h in absurd (none-some g.0 (sym (ended_none d.ended _ ended) ∙ g.1))
 
 -- no beginning of lines that have not ended is a plant
 pub none_yet : (lines : List (List Spot)) (vars : List (List ℕ)) (d : PlainDraft) → IsBegun lines vars d → d.ended ≡ false → (a b : List (List Spot)) → lines ≡ a ++ b → ¬ IsSomePlant a
@@ -131,9 +124,6 @@ none_yet lines vars d b going first rest e h =
     ) ∙ ap (λ w. all_taken w empty_draft (map said_in b.rest)) (sym v) ∙ b.taken in
     by_rest h.0.vars g.0 rest g.2 all
   where
-    same : (x y : PlainDraft) → Some x ≡ Some y → x ≡ y
-    same x y e = cc
-
     by_rest : (w : List (List ℕ)) (x : PlainDraft) (more : List (List Spot)) → x.ended ≡ true → all_taken w x (map said_in more) ≡ Some d → ⊥
-    by_rest w x [] t k = false_true (sym going ∙ ap (λ (y : PlainDraft). y.ended) (sym (same x d k)) ∙ t)
-    by_rest w x (l ∷ more) t k = none_some d (sym (ended_none x.ended _ t) ∙ k)
+    by_rest w x [] t k = false_true (sym going ∙ ap (λ (y : PlainDraft). y.ended) (sym (same_Some x d k)) ∙ t)
+    by_rest w x (l ∷ more) t k = absurd (none-some d (sym (ended_none x.ended _ t) ∙ k))

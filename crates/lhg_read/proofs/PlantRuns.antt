@@ -3,7 +3,8 @@ use Rattle.std.proofs.Common.{◌≡◌, ◌<◌, ◌≤◌, ◌+◌, ℕ, suc, 
 use Rattle.std.specs.Prelude.{nat_lt}
 use Rattle.std.specs.List.{flat_map}
 use Rattle.std.specs.Option.{option_and_then, option_map}
-use Rattle.std.proofs.lemmas.Bool.Decides.{nat_tests}
+use Rattle.std.proofs.lemmas.Bool.{and_parts, not-true, lt-ltb}
+use Rattle.std.proofs.lemmas.List.{map-append}
 use Rattle.lhg_row.specs.Piece.{PlainPiece}
 use Rattle.lhg_row.specs.Members.{AllOf}
 use Rattle.lhg_plant.specs.Plant.{PlainLocation, PlainSwitch}
@@ -11,15 +12,12 @@ use Rattle.lhg_plant.specs.Differ.{is_among, differ_from, all_differ}
 use Rattle.lhg_read.specs.PlantLine.{BlockLine, inv, flow, safe, WrittenSwitch, PlantLine, loc, block, switch, end}
 use Rattle.lhg_read.specs.PlantText.{Block, invs_of, flows_of, safes_of, rows_or, IsBlock, location_of, switch_at, block_lines, plant_lines}
 use Rattle.lhg_read.specs.PlantSteps.{PlainDraft, empty_draft, is_nil, with_last, safe_lines, loc_names, switch_names, is_open, begun, with_inv, with_flow, with_safe, may_begin, may_switch, step, steps}
-use Rattle.lhg_read.proofs.PlantParts.{map-append, with_last-append, safe_lines-append, not_nil, both, not_true, same_location, switch_name, names_of_blocks}
+use Rattle.lhg_read.proofs.PlantParts.{with_last-append, safe_lines-append, not_nil, same_location, switch_name, names_of_blocks}
 use Rattle.lhg_read.proofs.PlantStates.{going_on}
 
 -- one step of a draft that has not ended
 one_step : (n : ℕ) (d e : PlainDraft) (l : PlantLine) (rest : List PlantLine) → d.ended ≡ false → step n d l ≡ Some e → steps n d (l ∷ rest) ≡ steps n e rest
 one_step n d e l rest t h = going_on d.ended (option_and_then (λ x. steps n x rest) (step n d l)) t ∙ ap (option_and_then (λ x. steps n x rest)) h
-
-above : (m n : ℕ) → m < n → nat_lt m n ≡ true
-above m n h = grind (arith, nat_tests, h)
 
 -- the count of a flag
 abbrev pub flag_count : Bool → ℕ
@@ -100,7 +98,7 @@ block_taken n (safe rows ∷ ls) d xs x e h t i f s =
     let y = with_safe rows x in
     let new : PlainDraft = record d { locs = with_last (with_safe rows) d.locs } in
     let count : safe_lines d.locs ≡ length x.safe = ap safe_lines e ∙ safe_lines-append xs x in
-    let room : nat_lt (safe_lines d.locs) 64 ≡ true = above (safe_lines d.locs) 64 (omega (arith, count, s)) in
+    let room : nat_lt (safe_lines d.locs) 64 ≡ true = lt-ltb (safe_lines d.locs) 64 (omega (arith, count, s)) in
     let may : (is_open d && nat_lt (safe_lines d.locs) 64) ≡ true = ap (λ b. b && nat_lt (safe_lines d.locs) 64) o ∙ room in
     let at : new.locs ≡ xs ++ y ∷ [] = ap (with_last (with_safe rows)) e ∙ with_last-append (with_safe rows) xs x in
     let k = length-append x.safe (rows ∷ []) in
@@ -124,10 +122,10 @@ nil_of xs e = ap is_nil e
 blocks_taken : (n : ℕ) (bs : List Block) (d : PlainDraft) → d.switches ≡ [] → d.ended ≡ false → length d.locs + length bs ≤ 64 → differ_from (loc_names d.locs) (map (λ b. b.name) bs) ≡ true → AllOf IsBlock bs → AfterBlocks n d bs
 blocks_taken n [] d h t few differ each = record { new = d; locs = sym (append-nil d.locs); switches = h; going = t; taken = λ rest. refl }
 blocks_taken n (b ∷ bs) d h t few differ each =
-    let a = both (not (is_among b.name (loc_names d.locs))) (differ_from (loc_names d.locs ++ b.name ∷ []) (map (λ x. x.name) bs)) differ in
+    let a = and_parts (not (is_among b.name (loc_names d.locs))) (differ_from (loc_names d.locs ++ b.name ∷ []) (map (λ x. x.name) bs)) differ in
     let first : PlainDraft = record d { locs = d.locs ++ begun n b.name ∷ []; has_inv = false; has_flow = false } in
-    let room : nat_lt (length d.locs) 64 ≡ true = above (length d.locs) 64 (omega (arith, few)) in
-    let may : may_begin d b.name ≡ true = rw (nil_of d.switches h, room, not_true (is_among b.name (loc_names d.locs)) a.0) refl in
+    let room : nat_lt (length d.locs) 64 ≡ true = lt-ltb (length d.locs) 64 (omega (arith, few)) in
+    let may : may_begin d b.name ≡ true = rw (nil_of d.switches h, room, not-true (is_among b.name (loc_names d.locs)) a.0) refl in
     let began : step n d (loc b.name) ≡ Some first = ap (λ c. cond c (Some first) None) may in
     let one = each.0.one_inv in
     let flows = each.0.one_flow in
@@ -165,10 +163,10 @@ switches_taken n (w ∷ ws) [] d h t few differ e = absurd cc
 switches_taken n (w ∷ ws) (s ∷ ss) d h t few differ e =
     let here : switch_at (loc_names d.locs) w ≡ Some s = cc in
     let later : map (switch_at (loc_names d.locs)) ws ≡ map (λ x. Some x) ss = cc in
-    let a = both (not (is_among w.name (switch_names d.switches))) (differ_from (switch_names d.switches ++ w.name ∷ []) (map (λ x. x.name) ws)) differ in
+    let a = and_parts (not (is_among w.name (switch_names d.switches))) (differ_from (switch_names d.switches ++ w.name ∷ []) (map (λ x. x.name) ws)) differ in
     let new : PlainDraft = record d { switches = d.switches ++ s ∷ [] } in
-    let room : nat_lt (length d.switches) 256 ≡ true = above (length d.switches) 256 (omega (arith, few)) in
-    let may : may_switch d w.name ≡ true = rw (h, room, not_true (is_among w.name (switch_names d.switches)) a.0) refl in
+    let room : nat_lt (length d.switches) 256 ≡ true = lt-ltb (length d.switches) 256 (omega (arith, few)) in
+    let may : may_switch d w.name ≡ true = rw (h, room, not-true (is_among w.name (switch_names d.switches)) a.0) refl in
     let done : step n d (switch w) ≡ Some new =
     ap (λ c. cond c (option_map (λ x. record d { switches = d.switches ++ x ∷ [] }) (switch_at (loc_names d.locs) w)) None) may ∙ ap (option_map (λ x. record d { switches = d.switches ++ x ∷ [] })) here in
     let names : switch_names new.switches ≡ switch_names d.switches ++ w.name ∷ [] = map-append (λ x. x.name) d.switches (s ∷ []) ∙ ap (λ m. switch_names d.switches ++ m ∷ []) (switch_name (loc_names d.locs) w s here) in

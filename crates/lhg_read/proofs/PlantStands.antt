@@ -3,8 +3,9 @@ use Rattle.std.proofs.Common.{◌≡◌, ◌<◌, ◌≤◌, ◌+◌, ℕ, List,
 use Rattle.std.specs.Prelude.{nat_lt}
 use Rattle.std.specs.List.{flat_map}
 use Rattle.std.proofs.lemmas.Grind.{flat_map-append}
-use Rattle.std.proofs.lemmas.List.{length-map}
+use Rattle.std.proofs.lemmas.List.{length-map, map-append}
 use Rattle.std.proofs.lemmas.Bool.Decides.{nat_tests}
+use Rattle.std.proofs.lemmas.Bool.{and_parts, not-true}
 use Rattle.lhg_row.specs.Piece.{PlainPiece}
 use Rattle.lhg_row.specs.Members.{AllOf}
 use Rattle.lhg_plant.specs.Plant.{PlainLocation, PlainSwitch}
@@ -13,7 +14,7 @@ use Rattle.lhg_read.specs.PlantLine.{BlockLine, inv, flow, safe, WrittenSwitch, 
 use Rattle.lhg_read.specs.PlantText.{Block, invs_of, flows_of, safes_of, IsBlock, location_of, switch_at, block_lines, plant_lines}
 use Rattle.lhg_read.specs.PlantSteps.{PlainDraft, empty_draft, is_nil, with_last, safe_lines, loc_names, switch_names, is_open, begun, with_inv, with_flow, with_safe, may_begin, may_switch}
 use Rattle.lhg_read.proofs.VariableSteps.{differ_more}
-use Rattle.lhg_read.proofs.PlantParts.{map-append, with_last-append, safe_lines-append, nil_is, all_push, both, not_true, and_line, block_lines-more, invs-append, flows-append, safes-append, inv_more, flow_more, safe_more, names_of_blocks, names_of_switches}
+use Rattle.lhg_read.proofs.PlantParts.{with_last-append, safe_lines-append, nil_is, all_push, and_line, block_lines-more, invs-append, flows-append, safes-append, inv_more, flow_more, safe_more, names_of_blocks, names_of_switches}
 
 -- the names of the locations so far
 abbrev pub names_so_far : List Block → Block → List (List ℕ)
@@ -96,15 +97,15 @@ module _ (n : ℕ) (lines : List PlantLine) (d : PlainDraft) where
     -- a further one
     pub begins_next : (name : List ℕ) → may_begin d name ≡ true → Stands n (lines ++ loc name ∷ []) (record d { locs = d.locs ++ begun n name ∷ []; has_inv = false; has_flow = false })
     begins_next name h =
-        let a = both (is_nil d.switches) (nat_lt (length d.locs) 64 && not (is_among name (loc_names d.locs))) h in
-        let b = both (nat_lt (length d.locs) 64) (not (is_among name (loc_names d.locs))) a.1 in
+        let a = and_parts (is_nil d.switches) (nat_lt (length d.locs) 64 && not (is_among name (loc_names d.locs))) h in
+        let b = and_parts (nat_lt (length d.locs) 64) (not (is_among name (loc_names d.locs))) a.1 in
         let none : s.written ≡ [] = no_written (names_so_far s.closed s.last) s.written d.switches s.placed (nil_is d.switches a.0) in
         let blocks = s.closed ++ s.last ∷ [] in
         let whole : lines ≡ flat_map block_lines blocks =
         s.lines_are ∙ ap (λ ws. flat_map block_lines s.closed ++ (block_lines s.last ++ map (λ w. switch w) ws)) none ∙ sym (flat_map-append block_lines s.closed (s.last ∷ [])) in
         let names : map (λ b. b.name) blocks ≡ names_so_far s.closed s.last = map-append (λ b. b.name) s.closed (s.last ∷ []) in
         let differ : all_differ (map (λ b. b.name) blocks ++ name ∷ []) ≡ true =
-        ap (λ ns. all_differ (ns ++ name ∷ [])) names ∙ differ_more (names_so_far s.closed s.last) name s.differ (ap (is_among name) (sym locs_names) ∙ not_true (is_among name (loc_names d.locs)) b.1) in
+        ap (λ ns. all_differ (ns ++ name ∷ [])) names ∙ differ_more (names_so_far s.closed s.last) name s.differ (ap (is_among name) (sym locs_names) ∙ not-true (is_among name (loc_names d.locs)) b.1) in
         let count = length-append s.closed (s.last ∷ []) in
         let room = lower (length d.locs) 64 b.0 in
         record {
@@ -129,7 +130,7 @@ module _ (n : ℕ) (lines : List PlantLine) (d : PlainDraft) where
 
     opened : is_open d ≡ true → (s.written ≡ []) × (d.switches ≡ [])
     opened h =
-        let a = both (not (is_nil d.locs)) (is_nil d.switches) h in
+        let a = and_parts (not (is_nil d.locs)) (is_nil d.switches) h in
         let e = nil_is d.switches a.1 in
         (no_written (names_so_far s.closed s.last) s.written d.switches s.placed e, e)
 
@@ -174,7 +175,7 @@ module _ (n : ℕ) (lines : List PlantLine) (d : PlainDraft) where
     -- an `inv` line
     pub inv_line : (rows : PlainPiece) → (is_open d && not d.has_inv) ≡ true → Stands n (lines ++ block (inv rows) ∷ []) (record d { locs = with_last (with_inv rows) d.locs; has_inv = true })
     inv_line rows h =
-        let a = both (is_open d) (not d.has_inv) h in
+        let a = and_parts (is_open d) (not d.has_inv) h in
         let ls = s.last.lines in
         let none : invs_of ls ≡ [] = none_yet d.has_inv (invs_of ls) s.inv_flag a.1 in
         let i : invs_of (ls ++ inv rows ∷ []) ≡ [] ++ rows ∷ [] = invs-append ls (inv rows ∷ []) ∙ ap (λ zs. zs ++ rows ∷ []) none in
@@ -191,7 +192,7 @@ module _ (n : ℕ) (lines : List PlantLine) (d : PlainDraft) where
     -- a `flow` line
     pub flow_line : (rows : PlainPiece) → (is_open d && not d.has_flow) ≡ true → Stands n (lines ++ block (flow rows) ∷ []) (record d { locs = with_last (with_flow rows) d.locs; has_flow = true })
     flow_line rows h =
-        let a = both (is_open d) (not d.has_flow) h in
+        let a = and_parts (is_open d) (not d.has_flow) h in
         let ls = s.last.lines in
         let none : flows_of ls ≡ [] = none_yet d.has_flow (flows_of ls) s.flow_flag a.1 in
         let i : invs_of (ls ++ flow rows ∷ []) ≡ invs_of ls = invs-append ls (flow rows ∷ []) ∙ append-nil (invs_of ls) in
@@ -208,7 +209,7 @@ module _ (n : ℕ) (lines : List PlantLine) (d : PlainDraft) where
     -- a `safe` line
     pub safe_line : (rows : PlainPiece) → (is_open d && nat_lt (safe_lines d.locs) 64) ≡ true → Stands n (lines ++ block (safe rows) ∷ []) (record d { locs = with_last (with_safe rows) d.locs })
     safe_line rows h =
-        let a = both (is_open d) (nat_lt (safe_lines d.locs) 64) h in
+        let a = and_parts (is_open d) (nat_lt (safe_lines d.locs) 64) h in
         let ls = s.last.lines in
         let i : invs_of (ls ++ safe rows ∷ []) ≡ invs_of ls = invs-append ls (safe rows ∷ []) ∙ append-nil (invs_of ls) in
         let f : flows_of (ls ++ safe rows ∷ []) ≡ flows_of ls = flows-append ls (safe rows ∷ []) ∙ append-nil (flows_of ls) in
@@ -225,11 +226,11 @@ module _ (n : ℕ) (lines : List PlantLine) (d : PlainDraft) where
     -- a switch
     pub switch_line : (w : WrittenSwitch) (x : PlainSwitch) → may_switch d w.name ≡ true → switch_at (loc_names d.locs) w ≡ Some x → Stands n (lines ++ switch w ∷ []) (record d { switches = d.switches ++ x ∷ [] })
     switch_line w x h e =
-        let a = both (not (is_nil d.locs)) (nat_lt (length d.switches) 256 && not (is_among w.name (switch_names d.switches))) h in
-        let b = both (nat_lt (length d.switches) 256) (not (is_among w.name (switch_names d.switches))) a.1 in
+        let a = and_parts (not (is_nil d.locs)) (nat_lt (length d.switches) 256 && not (is_among w.name (switch_names d.switches))) h in
+        let b = and_parts (nat_lt (length d.switches) 256) (not (is_among w.name (switch_names d.switches))) a.1 in
         let names = names_of_switches (names_so_far s.closed s.last) s.written d.switches s.placed in
         let here : switch_at (names_so_far s.closed s.last) w ≡ Some x = ap (λ ns. switch_at ns w) (sym locs_names) ∙ e in
-        let fresh : is_among w.name (map (λ v. v.name) s.written) ≡ false = ap (is_among w.name) names ∙ not_true (is_among w.name (switch_names d.switches)) b.1 in
+        let fresh : is_among w.name (map (λ v. v.name) s.written) ≡ false = ap (is_among w.name) names ∙ not-true (is_among w.name (switch_names d.switches)) b.1 in
         let count : length s.written ≡ length d.switches = sym (length-map s.written (λ v. v.name)) ∙ ap length names ∙ length-map d.switches (λ v. v.name) in
         let more_written = length-append s.written (w ∷ []) in
         let room = lower (length d.switches) 256 b.0 in

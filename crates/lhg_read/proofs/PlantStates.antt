@@ -2,6 +2,7 @@
 use Rattle.std.proofs.Common.{◌≡◌, ℕ, List, [], ◌∷◌, ◌++◌, refl, sym, ap, ◌∙◌, subst, Bool, true, false, not, cond, ◌&&◌, Option, Some, None, append_assoc, append-nil}
 use Rattle.std.specs.Prelude.{nat_lt}
 use Rattle.std.specs.Option.{option_and_then, option_map}
+use Rattle.std.proofs.lemmas.Option.{none-some, same_Some}
 use Rattle.lhg_math.specs.Tests.{by_bool}
 use Rattle.lhg_plant.specs.Plant.{PlainSwitch}
 use Rattle.lhg_read.specs.PlantLine.{inv, flow, safe, PlantLine, loc, block, switch, end}
@@ -16,16 +17,10 @@ pub data State (n : ℕ) (lines : List PlantLine) (d : PlainDraft) : Type 0 wher
   stands : Stands n lines d → State n lines d
   ends : Ends n lines d → State n lines d
 
-none_some : {P : Type 0} (e : PlainDraft) → (let x : Option PlainDraft = None in x ≡ Some e) → P
-none_some e h = absurd cc
-
-some_eq : (d e : PlainDraft) → Some d ≡ Some e → d ≡ e
-some_eq d e h = cc
-
 -- a choice that gives a draft was allowed, and this is the draft
 chosen : (b : Bool) (x e : PlainDraft) → (let none : Option PlainDraft = None in cond b (Some x) none ≡ Some e) → (b ≡ true) × (x ≡ e)
-chosen true x e h = (refl, some_eq x e h)
-chosen false x e h = none_some e h
+chosen true x e h = (refl, same_Some x e h)
+chosen false x e h = absurd (none-some e h)
 
 pub ended_none : (b : Bool) (o : Option PlainDraft) → b ≡ true → cond b None o ≡ None
 ended_none b o t = ap (λ x. cond x None o) t
@@ -43,13 +38,13 @@ module _ (n : ℕ) (lines : List PlantLine) (d : PlainDraft) where
   -- at the beginning a location begins, and nothing else can stand
   first_line : (l : PlantLine) (e : PlainDraft) → lines ≡ [] → d ≡ empty_draft → step n empty_draft l ≡ Some e → State n (lines ++ l ∷ []) e
   first_line (loc name) e f g h =
-      let k : record empty_draft { locs = empty_draft.locs ++ begun n name ∷ []; has_inv = false; has_flow = false } ≡ e = some_eq _ e h in
+      let k : record empty_draft { locs = empty_draft.locs ++ begun n name ∷ []; has_inv = false; has_flow = false } ≡ e = same_Some _ e h in
       at_draft n (lines ++ loc name ∷ []) _ e (ap (λ (x : PlainDraft). record x { locs = x.locs ++ begun n name ∷ []; has_inv = false; has_flow = false }) g ∙ k) (begins_first n lines d name f g)
-  first_line (block (inv rows)) e f g h = none_some e h
-  first_line (block (flow rows)) e f g h = none_some e h
-  first_line (block (safe rows)) e f g h = none_some e h
-  first_line (switch w) e f g h = none_some e h
-  first_line end e f g h = none_some e h
+  first_line (block (inv rows)) e f g h = absurd (none-some e h)
+  first_line (block (flow rows)) e f g h = absurd (none-some e h)
+  first_line (block (safe rows)) e f g h = absurd (none-some e h)
+  first_line (switch w) e f g h = absurd (none-some e h)
+  first_line end e f g h = absurd (none-some e h)
 
   module _ (s : Stands n lines d) where
     some_locs : is_nil d.locs ≡ false
@@ -64,14 +59,14 @@ module _ (n : ℕ) (lines : List PlantLine) (d : PlainDraft) where
     next_line (switch w) e h =
         by_bool (may_switch d w.name)
         (λ t. let k : option_map (λ x. record d { switches = d.switches ++ x ∷ [] }) (switch_at (loc_names d.locs) w) ≡ Some e = rw t at h in by_place (switch_at (loc_names d.locs) w) refl k t)
-        (λ t. let k : (let none : Option PlainDraft = None in none ≡ Some e) = rw t at h in none_some e k)
+        (λ t. let k : (let none : Option PlainDraft = None in none ≡ Some e) = rw t at h in absurd (none-some e k))
       where
         by_place : (o : Option PlainSwitch) → switch_at (loc_names d.locs) w ≡ o → option_map (λ x. record d { switches = d.switches ++ x ∷ [] }) o ≡ Some e → may_switch d w.name ≡ true → State n (lines ++ switch w ∷ []) e
-        by_place None p k t = none_some e k
-        by_place (Some x) p k t = at_draft n _ _ e (some_eq _ e k) (switch_line n lines d s w x t p)
+        by_place None p k t = absurd (none-some e k)
+        by_place (Some x) p k t = at_draft n _ _ e (same_Some _ e k) (switch_line n lines d s w x t p)
     next_line end e h =
         let k : Some (record d { ended = true }) ≡ Some e = rw some_locs at h in
-        ends (subst (λ x. Ends n (lines ++ end ∷ []) x) (some_eq _ e k) (end_line n lines d s))
+        ends (subst (λ x. Ends n (lines ++ end ∷ []) x) (same_Some _ e k) (end_line n lines d s))
 
 -- one line more
 pub state_step : (n : ℕ) (lines : List PlantLine) (d : PlainDraft) (l : PlantLine) (e : PlainDraft) → State n lines d → d.ended ≡ false → step n d l ≡ Some e → State n (lines ++ l ∷ []) e
@@ -81,14 +76,14 @@ state_step n lines d l e (ends x) going h = true_false (sym x.ended ∙ going)
 
 -- lines more
 pub states : (n : ℕ) (lines more : List PlantLine) (d e : PlainDraft) → State n lines d → steps n d more ≡ Some e → State n (lines ++ more) e
-states n lines [] d e s h = subst (λ ls. State n ls e) (sym (append-nil lines)) (subst (λ x. State n lines x) (some_eq d e h) s)
+states n lines [] d e s h = subst (λ ls. State n ls e) (sym (append-nil lines)) (subst (λ x. State n lines x) (same_Some d e h) s)
 states n lines (l ∷ more) d e s h =
     by_bool d.ended
-    (λ t. none_some e (sym (ended_none d.ended _ t) ∙ h))
+    (λ t. absurd (none-some e (sym (ended_none d.ended _ t) ∙ h)))
     (λ t.
     let k : option_and_then (λ x. steps n x more) (step n d l) ≡ Some e = sym (going_on d.ended _ t) ∙ h in
     by_step (step n d l) refl k t (λ x p. states n (lines ++ l ∷ []) more x e (state_step n lines d l x s t p)))
   where
     by_step : (o : Option PlainDraft) → step n d l ≡ o → option_and_then (λ x. steps n x more) o ≡ Some e → d.ended ≡ false → ((x : PlainDraft) → step n d l ≡ Some x → steps n x more ≡ Some e → State n ((lines ++ l ∷ []) ++ more) e) → State n (lines ++ l ∷ more) e
-    by_step None p k t f = none_some e k
+    by_step None p k t f = absurd (none-some e k)
     by_step (Some x) p k t f = subst (λ ls. State n ls e) (append_assoc lines (l ∷ []) more) (f x p k)

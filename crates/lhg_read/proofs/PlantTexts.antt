@@ -1,6 +1,7 @@
 -- The two forms of the grammar of plants agree.
 use Rattle.std.proofs.Common.{◌≡◌, ℕ, List, [], ◌∷◌, length, map, refl, sym, ap, ◌∙◌, true, false, cond, Option, Some, None}
 use Rattle.std.specs.Option.{option_and_then}
+use Rattle.std.proofs.lemmas.Option.{none-some}
 use Rattle.lhg_math.specs.Tests.{by_bool, false_true}
 use Rattle.lhg_lex.specs.LineTokens.{Spot}
 use Rattle.lhg_plant.specs.Plant.{PlainLocation, PlainSwitch, PlainPlant}
@@ -10,9 +11,6 @@ use Rattle.lhg_read.specs.PlantSteps.{PlainDraft, empty_draft, step, steps, all_
 use Rattle.lhg_read.specs.Begun.{IsBegun}
 use Rattle.lhg_read.proofs.PlantStates.{State, nothing, stands, ends, states, going_on, ended_none}
 use Rattle.lhg_read.proofs.PlantRuns.{plant_taken}
-
-none_some : {P : Type 0} (e : PlainDraft) → (let x : Option PlainDraft = None in x ≡ Some e) → P
-none_some e h = absurd cc
 
 -- ---- lines and what they say
 
@@ -45,16 +43,16 @@ pub say_all : (vars : List (List ℕ)) (lines : List (List Spot)) (d e : PlainDr
 say_all vars [] d e h = record { all = []; are = refl; stepped = h }
 say_all vars (line ∷ lines) d e h =
     by_bool d.ended
-    (λ t. none_some e (sym (ended_none d.ended _ t) ∙ h))
+    (λ t. absurd (none-some e (sym (ended_none d.ended _ t) ∙ h)))
     (λ t. by_line t (line_of vars (said_in line)) refl (sym (going_on d.ended _ t) ∙ h) (λ x k. say_all vars lines x e k))
   where
     by_line : d.ended ≡ false → (o : Option PlantLine) → line_of vars (said_in line) ≡ o → option_and_then (λ x. all_taken vars x (map said_in lines)) (option_and_then (step (length vars) d) o) ≡ Some e
         → ((x : PlainDraft) → all_taken vars x (map said_in lines) ≡ Some e → Say vars lines x e) → Say vars (line ∷ lines) d e
-    by_line t None p k f = none_some e k
+    by_line t None p k f = absurd (none-some e k)
     by_line t (Some l) p k f = by_draft (step (length vars) d l) refl k
       where
         by_draft : (o : Option PlainDraft) → step (length vars) d l ≡ o → option_and_then (λ x. all_taken vars x (map said_in lines)) o ≡ Some e → Say vars (line ∷ lines) d e
-        by_draft None q k = none_some e k
+        by_draft None q k = absurd (none-some e k)
         by_draft (Some x) q k =
             let r = f x k in
             record {

@@ -2,6 +2,7 @@
 use Rattle.std.proofs.Common.{◌≡◌, ◌<◌, ◌≤◌, ◌+◌, ◌-◌, inl, inr, ℕ, List, [], ◌∷◌, ◌++◌, length, take, drop, map, refl, sym, ap, ◌∙◌, true, false, cond, Option, Some, None, arith, get_or, nat_le, append_assoc}
 use Rattle.std.proofs.lemmas.Bool.Decides.{nat_tests}
 use Rattle.std.proofs.lemmas.List.{drop_more, drop_all, take_rest}
+use Rattle.std.proofs.lemmas.Bool.{cases_lt}
 use Rattle.lhg_math.specs.Number.{Number}
 use Rattle.lhg_lex.specs.PlainToken.{PlainToken}
 use Rattle.lhg_lex.specs.TextTokens.{plain_of}
@@ -14,7 +15,7 @@ use Rattle.lhg_read.specs.Signs.{is_comma, is_word}
 use Rattle.lhg_read.specs.PointText.{is_equals, number_in, signed_number, coordinate_of, coordinates_of, point_of}
 use Rattle.lhg_read.proofs.Cuts.{ahead, last_part, inner_part}
 use Rattle.lhg_read.proofs.ListSteps.{commas_blind}
-use Rattle.lhg_read.proofs.SumSteps.{some_or_all, a_token, minus_blind}
+use Rattle.lhg_read.proofs.SumSteps.{a_token, minus_blind}
 
 -- ---- the parts between commas
 
@@ -36,9 +37,9 @@ past_end text tokens from h = let e : nat_le from (length tokens) ≡ false = gr
 part_here : (text : List ℕ) (tokens : List Token) (from n : ℕ) → from ≤ length tokens → n ≡ ahead is_comma tokens from → parts_from text tokens from ≡ part_at text tokens from n ∷ parts_from text tokens (from + n + 1)
 part_here text tokens from n within is =
     within_end text tokens from within
-    ∙ elim (some_or_all (length tokens) (from + n)) [
-      | inl past ↦ ap parts_of (last_part is_comma commas_blind text tokens from n within is past) ∙ ap (λ ps. part_at text tokens from n ∷ ps) (sym (past_end text tokens (from + n + 1) (omega arith)))
-      | inr more ↦ ap parts_of (inner_part is_comma commas_blind text tokens from n within is a_token more) ∙ ap (λ ps. part_at text tokens from n ∷ ps) (sym (within_end text tokens (from + n + 1) (omega arith)))
+    ∙ elim (cases_lt (from + n) (length tokens)) [
+      | inl more ↦ ap parts_of (inner_part is_comma commas_blind text tokens from n within is a_token more) ∙ ap (λ ps. part_at text tokens from n ∷ ps) (sym (within_end text tokens (from + n + 1) (omega arith)))
+      | inr past ↦ ap parts_of (last_part is_comma commas_blind text tokens from n within is past) ∙ ap (λ ps. part_at text tokens from n ∷ ps) (sym (past_end text tokens (from + n + 1) (omega arith)))
     ]
 
 -- ---- the coordinates

@@ -1,5 +1,5 @@
 -- A line in which a space stands behind each token has these tokens.
-use Rattle.std.proofs.Common.{◌≡◌, ◌+◌, ◌==◌, ℕ, suc, List, [], ◌∷◌, ◌++◌, length, map, refl, sym, ap, ◌∙◌, Bool, true, false, inr, Ok, arith, append-nil}
+use Rattle.std.proofs.Common.{◌≡◌, ◌+◌, ◌==◌, ℕ, List, [], ◌∷◌, ◌++◌, length, map, refl, sym, ap, ◌∙◌, Bool, true, false, inr, Ok, arith, append-nil}
 use Rattle.std.specs.List.{list_all, list_any, prefix_len}
 use Rattle.std.proofs.lemmas.Bool.{and_parts}
 use Rattle.std.proofs.lemmas.Bool.Decides.{nat_tests}
@@ -16,6 +16,7 @@ use Rattle.lhg_lex.proofs.LongestLemmas.{word_longest, sign_longest}
 use Rattle.lhg_lex.proofs.NumberLengths.{plain_longest}
 use Rattle.lhg_lex.proofs.LineLawProofs.{content_laws}
 use Rattle.lhg_lex.proofs.ReadingAnswers.{answer_well}
+use Rattle.lhg_lex.proofs.Fronts.{suc_is}
 use Rattle.lhg_read.specs.PlantText.{said_in}
 
 -- a token, and its bytes
@@ -85,10 +86,7 @@ spelled_tokens ss h =
 -- a word
 word_stops : (w rest : List ℕ) → list_all continues_word w ≡ true → prefix_len continues_word (w ++ (32 ∷ rest)) ≡ length w
 word_stops [] rest h = refl
-word_stops (b ∷ w) rest h = let p = and_parts (continues_word b) (list_all continues_word w) h in rw p.0 (ap (λ n. 1 + n) (word_stops w rest p.1) ∙ later (length w))
-  where
-    later : (n : ℕ) → 1 + n ≡ suc n
-    later n = omega arith
+word_stops (b ∷ w) rest h = let p = and_parts (continues_word b) (list_all continues_word w) h in rw p.0 (ap (λ n. 1 + n) (word_stops w rest p.1) ∙ suc_is (length w))
 
 word_plain : (w : List ℕ) → list_all continues_word w ≡ true → list_any (λ b. b == 35) w ≡ false
 word_plain [] h = refl

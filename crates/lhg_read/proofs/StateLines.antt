@@ -1,8 +1,8 @@
 -- Each plant has a line that is a state of it.
 use Rattle.std.proofs.Common.{◌≡◌, ◌<◌, ℕ, List, [], ◌∷◌, ◌++◌, length, map, refl, ap, ◌∙◌, true, Some, Ok, arith, nat_le, suc, codes}
 use Rattle.std.specs.Prelude.{nat_lt}
-use Rattle.std.specs.Str.{bytes_eq}
 use Rattle.std.proofs.lemmas.Bool.Decides.{nat_tests}
+use Rattle.std.proofs.lemmas.Slice.Eq.{bytes_eq-Decides}
 use Rattle.lhg_math.specs.Number.{Number, nought}
 use Rattle.lhg_row.specs.Members.{AllOf}
 use Rattle.lhg_lex.specs.PlainToken.{PlainToken, word, number, sign}
@@ -18,7 +18,6 @@ use Rattle.lhg_read.specs.PointText.{coordinate_of, coordinates_of, point_of}
 use Rattle.lhg_read.specs.Signs.{is_comma}
 use Rattle.lhg_read.specs.StateText.{location_in, state_line, IsSomeState}
 use Rattle.lhg_read.specs.TokenText.{token_line}
-use Rattle.lhg_read.proofs.Collecting.{same_eq}
 use Rattle.lhg_read.proofs.PlantContinues.{on_by}
 use Rattle.lhg_read.proofs.SpelledLines.{Spelling, IsSpelling, spelled_line, spelled_tokens, word_spelling, equals_spelling, comma_spelling, zero_spelling}
 use Rattle.lhg_read.proofs.StateSteps.{state_is}
@@ -49,12 +48,8 @@ origin_spelled : (v : List ℕ) (vars : List (List ℕ)) → AllOf IsName (v ∷
 origin_spelled v [] h = coordinate_spelled v [] h.0 tt
 origin_spelled v (w ∷ vars) h = coordinate_spelled v (spelling (44 ∷ []) (sign 44) ∷ origin w vars) h.0 (comma_spelling, origin_spelled w vars h.1)
 
-same_bytes : (w : List ℕ) → bytes_eq w w ≡ true
-same_bytes [] = refl
-same_bytes (b ∷ w) = rw (same_eq b) (same_bytes w)
-
 coordinate_said : (v : List ℕ) → coordinate_of v (tokens (coordinate v)) ≡ Some nought
-coordinate_said v = rw (same_bytes v) refl
+coordinate_said v = rw ((bytes_eq-Decides v v).1 refl) refl
 
 zeros : List (List ℕ) → List Number
 zeros vars = map (λ _. nought) vars
@@ -72,7 +67,7 @@ state_spelling name v vars = spelling (codes "state") (word (codes "state")) ∷
 
 -- the first location is found by its name
 first_place : (l : PlainLocation) (locs : List PlainLocation) → IsName l.name → (let p : PlainPlant = record { vars = []; locs = l ∷ locs; switches = [] } in location_in p (word l.name)) ≡ Some 0
-first_place l locs h = let e : nat_le (length l.name) 32 ≡ true = grind (arith, nat_tests, h.fits) in let f : nat_lt 0 (suc (length (loc_names locs))) ≡ true = grind (arith, nat_tests) in rw e (rw (same_bytes l.name, f) refl)
+first_place l locs h = let e : nat_le (length l.name) 32 ≡ true = grind (arith, nat_tests, h.fits) in let f : nat_lt 0 (suc (length (loc_names locs))) ≡ true = grind (arith, nat_tests) in rw e (rw ((bytes_eq-Decides l.name l.name).1 refl, f) refl)
 
 state_said : (p : PlainPlant) (l : PlainLocation) (locs : List PlainLocation) (v : List ℕ) (vars : List (List ℕ)) → p.locs ≡ l ∷ locs → p.vars ≡ v ∷ vars → IsName l.name
     → state_line p (tokens (state_spelling l.name v vars)) ≡ Some (record { loc = 0; at = zeros (v ∷ vars) })

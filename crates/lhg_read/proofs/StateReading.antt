@@ -1,5 +1,6 @@
 -- A state is read of one line: what holds then, and where the line cannot stand.
-use Rattle.std.proofs.Common.{◌≡◌, List, [], ◌∷◌, map, refl, sym, ap, ◌∙◌, Option, Some, None}
+use Rattle.std.proofs.Common.{◌≡◌, List, [], ◌∷◌, map, refl, sym, ap, ◌∙◌, Some, None}
+use Rattle.std.proofs.lemmas.Option.{none-some}
 use Rattle.lhg_lex.specs.LineTokens.{Spot}
 use Rattle.lhg_lex.specs.TextTokens.{plain_of}
 use Rattle.lhg_lex.specs.Reading.{Reading, IsTokenLine}
@@ -24,12 +25,9 @@ not_empty p (x ∷ a) b e h = absurd cc
 same_line : (line other : List Spot) (more : List (List Spot)) → line ∷ more ≡ other ∷ [] → other ≡ line
 same_line line other more e = cc
 
-none_some : (s : PlainState) → (let x : Option PlainState = None in x ≡ Some s) → ⊥
-none_some s e = absurd cc
-
 -- a line that says no state
 no_state : (p : PlainPlant) (line : List Spot) → state_line p (said_in line) ≡ None → (more : List (List Spot)) → ¬ IsSomeState p (line ∷ more)
-no_state p line e more h = none_some h.0 (sym e ∙ ap (λ l. state_line p (said_in l)) (sym (same_line line h.1.line more h.1.lines_are)) ∙ h.1.says)
+no_state p line e more h = absurd (none-some h.0 (sym e ∙ ap (λ l. state_line p (said_in l)) (sym (same_line line h.1.line more h.1.lines_are)) ∙ h.1.says))
 
 module _ (p : PlainPlant) (can : CanGoOn (IsSomeState p) []) (old : Reading) where
   -- no line comes

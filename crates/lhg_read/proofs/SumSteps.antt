@@ -1,6 +1,7 @@
 -- The terms of a sum are put one after another.
-use Rattle.std.proofs.Common.{◌≡◌, ◌<◌, ◌≤◌, ◌+◌, ◌-◌, ◌⊎◌, inl, inr, ℕ, get_or, take, arith, List, [], ◌∷◌, length, drop, map, refl, sym, ap, ◌∙◌, Bool, true, false, Option, Some, None}
+use Rattle.std.proofs.Common.{◌≡◌, ◌<◌, ◌≤◌, ◌+◌, ◌-◌, inl, inr, ℕ, get_or, take, arith, List, [], ◌∷◌, length, drop, map, refl, sym, ap, ◌∙◌, Bool, true, false, Option, Some, None}
 use Rattle.std.specs.Option.{option_and_then, option_map}
+use Rattle.std.proofs.lemmas.Bool.{cases_lt}
 use Rattle.lhg_lex.specs.PlainToken.{PlainToken}
 use Rattle.lhg_lex.specs.TextTokens.{plain_of}
 use Rattle.lhg_lex.specs.declared.tokens.Token.{Token}
@@ -73,9 +74,6 @@ inner_term form vars turned c minus part mark k = more turned c minus (term_of f
 
 -- ---- the turns of the loop over the terms
 
-pub some_or_all : (m n : ℕ) → (m ≤ n) ⊎ (n < m)
-some_or_all m n = grind arith
-
 unfoldable pub a_token : Token
 a_token = record { kind = tok.Word; from = 0; to = 0 }
 
@@ -103,12 +101,12 @@ module _ (form : Form) (vars : List (List ℕ)) (text : List ℕ) (tokens : List
 
   -- where the term cannot be put, there is no value
   pub refused : term_put turned c minus (term_of form vars here) ≡ None → now ≡ None
-  refused h = elim (some_or_all (length tokens) (at + n)) [
-    | inl past ↦ finished past ∙ h
-    | inr lt ↦
+  refused h = elim (cases_lt (at + n) (length tokens)) [
+    | inl lt ↦
         ap (λ k. with_turned turned c (terms_from form vars minus k)) (inner_part is_plus_or_minus signs_blind text tokens at n within is a_token lt)
         ∙ inner_term form vars turned c minus here (plain_of text (get_or tokens (at + n) a_token)) (cut is_plus_or_minus (map (plain_of text) (drop (at + n + 1) tokens)))
         ∙ ap (option_and_then (λ d. with_turned turned d (terms_from form vars (is_minus (plain_of text (get_or tokens (at + n) a_token))) (cut is_plus_or_minus (map (plain_of text) (drop (at + n + 1) tokens)))))) h
+    | inr past ↦ finished past ∙ h
   ]
 
 -- ---- the first turn

@@ -3,6 +3,8 @@ use Rattle.std.proofs.Common.{◌≡◌, ◌<◌, ◌≤◌, ◌+◌, ◌-◌, �
 use Rattle.std.specs.Prelude.{slice_get}
 use Rattle.std.specs.List.{AllByRecursion}
 use Rattle.std.proofs.lemmas.List.{length-drop, take-append-le, take-append-drop}
+use Rattle.std.proofs.lemmas.Option.{none-some, same_Some}
+use Rattle.std.proofs.lemmas.Bool.{cases_lt}
 use Rattle.lhg_lex.specs.Lines.{lines_of}
 use Rattle.lhg_lex.specs.LineTokens.{Spot, Fault, tokens_of, IsBlankLine}
 use Rattle.lhg_lex.specs.FirstBad.{CanStand}
@@ -113,12 +115,6 @@ pub record CanGoOn (Is : List (List Spot) → Type 0) (tokens : List (List Spot)
   pub are : token_lines more ≡ Some further
   pub is : Is (tokens ++ further)
 
-some_eq : (xs ys : List (List Spot)) → Some xs ≡ Some ys → xs ≡ ys
-some_eq xs ys e = cc
-
-none_some : {P : Type 0} (xs : List (List Spot)) → (let x : Option (List (List Spot)) = None in x ≡ Some xs) → P
-none_some xs e = absurd cc
-
 -- the lines can stand
 can_stand : (Is : List (List Spot) → Type 0) (lines : List (List ℕ)) (tokens : List (List Spot)) → token_lines lines ≡ Some tokens → CanGoOn Is tokens → CanStand (IsTextBy Is) lines
 can_stand Is lines tokens e c = (
@@ -131,7 +127,7 @@ can_stand Is lines tokens e c = (
 )
 
 -- the line at a place behind a front
-get_at : (xs : List (List ℕ)) (y : List ℕ) (ys : List (List ℕ)) → slice_get (xs ++ y ∷ ys) (length xs) ≡ Some y
+pub get_at : (xs : List (List ℕ)) (y : List ℕ) (ys : List (List ℕ)) → slice_get (xs ++ y ∷ ys) (length xs) ≡ Some y
 get_at [] y ys = refl
 get_at (x ∷ xs) y ys = get_at xs y ys
 
@@ -159,18 +155,15 @@ pub parts_of : (xs ys : List (List ℕ)) (tokens : List (List Spot)) → token_l
 parts_of xs ys tokens e = by_both (token_lines xs) (token_lines ys) refl refl (sym (token_lines-append xs ys) ∙ e)
   where
     by_both : (a b : Option (List (List Spot))) → token_lines xs ≡ a → token_lines ys ≡ b → joined (token_lines xs) (token_lines ys) ≡ Some tokens → Parts xs ys tokens
-    by_both None b p q h = none_some tokens (sym (ap (λ o. joined o (token_lines ys)) p) ∙ h)
-    by_both (Some x) None p q h = none_some tokens (sym (ap (λ o. joined o (token_lines ys)) p ∙ ap (joined (Some x)) q) ∙ h)
+    by_both None b p q h = absurd (none-some tokens (sym (ap (λ o. joined o (token_lines ys)) p) ∙ h))
+    by_both (Some x) None p q h = absurd (none-some tokens (sym (ap (λ o. joined o (token_lines ys)) p ∙ ap (joined (Some x)) q) ∙ h))
     by_both (Some x) (Some y) p q h = record {
       first = x;
       second = y;
       first_are = p;
       second_are = q;
-      whole = sym (some_eq (x ++ y) tokens (sym (ap (λ o. joined o (token_lines ys)) p ∙ ap (joined (Some x)) q) ∙ h));
+      whole = sym (same_Some (x ++ y) tokens (sym (ap (λ o. joined o (token_lines ys)) p ∙ ap (joined (Some x)) q) ∙ h));
     }
-
-some_or_all : (m n : ℕ) → (m ≤ n) ⊎ (n < m)
-some_or_all m n = grind arith
 
 -- no beginning of these tokens is in the grammar
 abbrev pub NoneYet : (List (List Spot) → Type 0) → List (List Spot) → Type 0
@@ -180,7 +173,7 @@ NoneYet Is tokens = (a b : List (List Spot)) → tokens ≡ a ++ b → ¬ Is a
 none_of_lines : (Is : List (List Spot) → Type 0) (lines : List (List ℕ)) (tokens : List (List Spot)) → token_lines lines ≡ Some tokens → NoneYet Is tokens → (k : ℕ) → ¬ IsTextBy Is (take k lines)
 none_of_lines Is lines tokens e none k t =
     let p = parts_of (take k lines) (drop k lines) tokens (ap token_lines (take-append-drop k lines) ∙ e) in
-    none p.first p.second p.whole (subst (λ ts. Is ts) (some_eq t.tokens p.first (sym t.are ∙ p.first_are)) t.is)
+    none p.first p.second p.whole (subst (λ ts. Is ts) (same_Some t.tokens p.first (sym t.are ∙ p.first_are)) t.is)
 
 module _ (Is : List (List Spot) → Type 0) (old s : Reading) (tokens : List (List Spot)) (r : Reads old s tokens) (can : CanGoOn Is tokens) (none : NoneYet Is tokens) where
   -- a line that no text goes on with
@@ -196,14 +189,14 @@ module _ (Is : List (List Spot) → Type 0) (old s : Reading) (tokens : List (Li
       let place : length front + 1 - 1 ≡ length front = omega arith in
       record {
         n = length front + 1;
-        none = λ k t. elim (some_or_all k (length front)) [
-          | inl le ↦
-              none_of_lines Is front tokens (front_tokens old s tokens r h.blanks h.blank) none k
-              (subst (λ ls. IsTextBy Is ls) (ap (take k) all ∙ take-append-le k front (line ∷ rest) le) t)
-          | inr gt ↦
+        none = λ k t. elim (cases_lt (length front) k) [
+          | inl gt ↦
               let past : length front + 1 ≤ k = omega arith in
               let cut : take k (left_of old) ≡ front ++ line ∷ take (k - (length front + 1)) rest = ap (take k) all ∙ take_past k front line rest past in
               bad (take (k - (length front + 1)) rest) (subst (λ ls. IsTextBy Is ls) cut t)
+          | inr le ↦
+              none_of_lines Is front tokens (front_tokens old s tokens r h.blanks h.blank) none k
+              (subst (λ ls. IsTextBy Is ls) (ap (take k) all ∙ take-append-le k front (line ∷ rest) le) t)
         ];
         counted = let a = r.read.count in let b = h.count in omega (arith, a, b, size);
         first = record {
@@ -241,8 +234,8 @@ module _ (Is : List (List Spot) → Type 0) (old s : Reading) (tokens : List (Li
               by_rest o e
             where
               by_rest : (o : Option (List (List Spot))) → joined (Some tokens) (joined (Some (h.spots ∷ [])) o) ≡ Some t.tokens → ⊥
-              by_rest None e = none_some t.tokens e
-              by_rest (Some ts) e = bad ts (subst (λ x. Is x) (sym (some_eq (tokens ++ h.spots ∷ ts) t.tokens e)) t.is)
+              by_rest None e = absurd (none-some t.tokens e)
+              by_rest (Some ts) e = bad ts (subst (λ x. Is x) (sym (same_Some (tokens ++ h.spots ∷ ts) t.tokens e)) t.is)
 
   -- the next line has a token error
   pub faulty_line : (line column : ℕ) (what : What) → IsBadLine s line column what → IsFirstFault (IsTextBy Is) old line column what
@@ -250,11 +243,11 @@ module _ (Is : List (List Spot) → Type 0) (old s : Reading) (tokens : List (Li
     where
       no_text : (more : List (List ℕ)) → ¬ IsTextBy Is ((r.front ++ h.next.blanks) ++ h.bytes ∷ more)
       no_text more t =
-          none_some t.tokens (sym (
+          absurd (none-some t.tokens (sym (
           token_lines-append (r.front ++ h.next.blanks) (h.bytes ∷ more)
           ∙ ap (λ x. joined (token_lines (r.front ++ h.next.blanks)) (joined (token_line x) (token_lines more))) h.faulty
           ∙ none_joined (token_lines (r.front ++ h.next.blanks))
-          ) ∙ t.are)
+          ) ∙ t.are))
 
   -- the text ends too early
   pub missing_line : (lines : ℕ) → IsAtEnd s → lines ≡ length (lines_of s.bytes) → s.read ≤ length (lines_of s.bytes) → IsFirstFault (IsTextBy Is) old (lines + 1) 0 NotHere
@@ -271,7 +264,7 @@ module _ (Is : List (List Spot) → Type 0) (old s : Reading) (tokens : List (Li
         first = record {
           counted = omega arith;
           before = subst (λ ls. CanStand (IsTextBy Is) ls) (sym (ap (λ k. take k left) place ∙ take_all (length left) left (omega arith))) (can_stand Is left tokens are can);
-          bad = inr (refl, λ t. none tokens [] (sym (append-nil tokens)) (subst (λ ts. Is ts) (some_eq t.tokens tokens (sym t.are ∙ are)) t.is));
+          bad = inr (refl, λ t. none tokens [] (sym (append-nil tokens)) (subst (λ ts. Is ts) (same_Some t.tokens tokens (sym t.are ∙ are)) t.is));
         };
         fault = ap (λ k. fault_at (slice_get left k)) place ∙ ap fault_at (past left);
       }

@@ -1,8 +1,9 @@
 -- Variables are read one after another.
-use Rattle.std.proofs.Common.{◌≡◌, ◌<◌, ◌≤◌, ◌+◌, ℕ, suc, List, [], ◌∷◌, ◌++◌, length, drop, map, refl, sym, ap, ◌∙◌, Bool, true, false, not, cond, ◌&&◌, Option, Some, None, arith, get_or, append_assoc, append-nil, length-append, nat_le}
+use Rattle.std.proofs.Common.{◌≡◌, ◌<◌, ◌+◌, ℕ, suc, List, [], ◌∷◌, ◌++◌, length, drop, map, refl, sym, ap, ◌∙◌, Bool, true, false, not, cond, ◌&&◌, Option, Some, None, arith, get_or, append_assoc, append-nil, length-append, nat_le}
 use Rattle.std.specs.Option.{option_and_then}
 use Rattle.std.proofs.Math.Seq.{drop-cons}
 use Rattle.std.proofs.lemmas.Bool.Decides.{nat_tests}
+use Rattle.std.proofs.Math.Bool.{and-false}
 use Rattle.lhg_lex.specs.PlainToken.{PlainToken}
 use Rattle.lhg_lex.specs.TextTokens.{plain_of}
 use Rattle.lhg_lex.specs.declared.tokens.Token.{Token}
@@ -13,10 +14,6 @@ use Rattle.lhg_read.specs.Names.{variable_name, variable_names, proper_variables
 -- the variables of further tokens, behind those that are read
 abbrev pub further : List (List ℕ) → List PlainToken → Option (List (List ℕ))
 further seen ts = option_and_then (λ more. proper_variables (seen ++ more)) (variable_names ts)
-
-and_false : (a : Bool) → (a && false) ≡ false
-and_false true = refl
-and_false false = refl
 
 and_assoc : (a b c : Bool) → (a && (b && c)) ≡ ((a && b) && c)
 and_assoc true b c = refl
@@ -35,7 +32,7 @@ differ_more seen n h k = differ-append [] seen (n ∷ []) ∙ rw (h, k) refl
 
 -- a name that is among those before it
 pub differ_not : (seen : List (List ℕ)) (n : List ℕ) (more : List (List ℕ)) → is_among n seen ≡ true → all_differ (seen ++ n ∷ more) ≡ false
-differ_not seen n more h = differ-append [] seen (n ∷ more) ∙ rw h (and_false (all_differ seen))
+differ_not seen n more h = differ-append [] seen (n ∷ more) ∙ rw h (and-false (all_differ seen))
 
 consed_some : (n : List ℕ) (seen : List (List ℕ)) (o : Option (List (List ℕ))) → option_and_then (λ more. proper_variables (seen ++ more)) (consed (Some n) o) ≡ option_and_then (λ more. proper_variables ((seen ++ n ∷ []) ++ more)) o
 consed_some n seen None = refl
@@ -63,7 +60,7 @@ module _ (seen : List (List ℕ)) (t : PlainToken) (ts : List PlainToken) where
             let k = length-append seen (n ∷ more) in
             let m : 6 < length (seen ++ n ∷ more) = omega (arith, k, h) in
             let f : nat_le (length (seen ++ n ∷ more)) 6 ≡ false = grind (arith, nat_tests, m) in
-            rw f (ap (λ b. cond b (Some (seen ++ n ∷ more)) None) (and_false (nat_le 1 (length (seen ++ n ∷ more)))))
+            rw f (ap (λ b. cond b (Some (seen ++ n ∷ more)) None) (and-false (nat_le 1 (length (seen ++ n ∷ more)))))
 
     -- a name that is there already
     pub named_before : is_among n seen ≡ true → further seen (t ∷ ts) ≡ None
@@ -72,18 +69,11 @@ module _ (seen : List (List ℕ)) (t : PlainToken) (ts : List PlainToken) where
         again : (more : List (List ℕ)) → proper_variables (seen ++ n ∷ more) ≡ None
         again more =
             let f = differ_not seen n more h in
-            rw f (ap (λ b. cond (nat_le 1 (length (seen ++ n ∷ more)) && b) (Some (seen ++ n ∷ more)) None) (and_false (nat_le (length (seen ++ n ∷ more)) 6)) ∙ ap (λ b. cond b (Some (seen ++ n ∷ more)) None) (and_false (nat_le 1 (length (seen ++ n ∷ more)))))
+            rw f (ap (λ b. cond (nat_le 1 (length (seen ++ n ∷ more)) && b) (Some (seen ++ n ∷ more)) None) (and-false (nat_le (length (seen ++ n ∷ more)) 6)) ∙ ap (λ b. cond b (Some (seen ++ n ∷ more)) None) (and-false (nat_le 1 (length (seen ++ n ∷ more)))))
 
     -- a variable more
     pub named : further seen (t ∷ ts) ≡ further (seen ++ n ∷ []) ts
     named = here ∙ consed_some n seen (variable_names ts)
-
--- at the end
-pub some_variables : (seen : List (List ℕ)) → 0 < length seen → length seen ≤ 6 → all_differ seen ≡ true → further seen [] ≡ Some seen
-some_variables seen some few differ =
-    let a : nat_le 1 (length seen) ≡ true = grind (arith, nat_tests, some) in
-    let b : nat_le (length seen) 6 ≡ true = grind (arith, nat_tests, few) in
-    ap proper_variables (append-nil seen) ∙ rw (a, b, differ) refl
 
 pub no_variables : (seen : List (List ℕ)) → length seen ≡ 0 → further seen [] ≡ None
 no_variables [] e = refl

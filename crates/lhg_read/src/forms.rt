@@ -3,7 +3,7 @@
 /// In which line a list of constraints stands.
 #[derive(Clone, Copy, Debug, PartialEq, Eq)]
 pub enum Form {
-    /// An `inv`, `safe`, `piece` or `guard` line: rows over the variables.
+    /// A line of rows over the variables, such as `inv` and `safe`.
     Plain,
     /// A `flow` line: rows over the derivatives, where a name stands with or without `'`, and `still` may stand for the list.
     Flow,

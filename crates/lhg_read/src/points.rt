@@ -87,7 +87,8 @@ pub(crate) fn point_from(
 }
 
 /// The point that begins with the token at a place and ends with the line: a number for each variable of the plant, in
-/// order. The line came from the lines.
+/// order. The line came from the lines. `Bad` comes exactly where the tokens are no such point, with the line's number and
+/// column 0; `Memory` for want of it.
 pub fn read_point(
     alloc: Global,
     line: &Line,

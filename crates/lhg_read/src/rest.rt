@@ -7,8 +7,8 @@ use crate::refusal::{Refusal, stop_at};
 use lhg_lex::{Lines, ReadStop};
 use std::alloc::Global;
 
-/// Reads to the end of the input, behind the last part of the text. After a refusal which line comes next is not
-/// promised.
+/// Reads to the end of the input, behind the last part of the text. `Bad` comes exactly where a line is left that is not
+/// blank, with the first such line and its error; `Memory` for want of it. After a refusal which line comes next is not promised.
 pub fn finish(alloc: Global, lines: &mut Lines) -> Result<(), ReadStop>
     // only blank lines were left
     ensures ok { OnOk result (IsAtEnd lines.old) }

@@ -47,8 +47,9 @@ pub(crate) fn rows_from(
     read_list(alloc, lines, vars, form, tokens)
 }
 
-/// The rows of the list of constraints that begins with the token at a place and ends with the line. The line came from
-/// the lines.
+/// The rows that begin with the token at a place and end with the line, which came from the lines: `all`, a list of
+/// constraints or, in a flow, `still`. Each row has one coefficient per variable, in a switch one per old and then per new
+/// variable. `Bad` comes exactly where the tokens are no such rows, with the line's number and column 0; `Memory` for want of it.
 pub fn read_rows(
     alloc: Global,
     line: &Line,

@@ -48,7 +48,3 @@ module _ {A : Type 0} (t : A → Marked Bool) (xs : List A) (i : ℕ) (x : A) (x
 -- where all members passed, all do
 pub all-end : {A : Type 0} (t : A → Marked Bool) (xs : List A) (i : ℕ) (whole : Marked Bool) → length xs ≤ i → IsRest whole (marked_all t (drop i xs)) → true ≡ whole.value
 all-end t xs i whole h r = sym (ap (λ ys. (marked_all t ys).value) (drop_all i xs h)) ∙ r.same
-
--- where no member passed, none does
-pub any-end : {A : Type 0} (t : A → Marked Bool) (xs : List A) (i : ℕ) (whole : Marked Bool) → length xs ≤ i → IsRest whole (marked_any t (drop i xs)) → false ≡ whole.value
-any-end t xs i whole h r = sym (ap (λ ys. (marked_any t ys).value) (drop_all i xs h)) ∙ r.same

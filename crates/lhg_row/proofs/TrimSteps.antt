@@ -1,4 +1,4 @@
--- Steps of trim: rows that stand alone, rows of one direction, and what is put where.
+-- Steps of trim: rows that stand alone, and its parts one after another.
 use Rattle.std.proofs.Common.{◌≡◌, ◌<◌, length, Bool, true, false, not, cond}
 use Rattle.std.specs.declared.cmp.Ordering.TheVariants.{Less, Equal, Greater}
 use Rattle.lhg_math.specs.Number.{Number, lt, nought, sign_of}

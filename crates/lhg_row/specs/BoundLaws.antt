@@ -69,12 +69,12 @@ over_higher l v w h k = up l.strict k
         (λ e. ap not e)
 
 -- two bounds allow the value
-pub record IsBetween (l u : Option Bound) (v : Number) : Type 0 where
+pub record IsAllowed (l u : Option Bound) (v : Number) : Type 0 where
   pub above : over_bound l v ≡ true
   pub below : under_bound u v ≡ true
 
 -- where two bounds allow some value, they allow the chosen one
-pub chosen-between : (l u : Option Bound) (v : Number) → IsBetween l u v → IsBetween l u (chosen l u).value
+pub chosen-between : (l u : Option Bound) (v : Number) → IsAllowed l u v → IsAllowed l u (chosen l u).value
 chosen-between None None v h = record { above = refl; below = refl }
 chosen-between (Some l) None v h =
     by_bool l.strict

@@ -12,7 +12,7 @@ use Rattle.lhg_row.specs.CheckPoint.{IsTurn, IsCut, IsCheckPoint}
 use Rattle.lhg_row.specs.Decisions.{number_decided}
 use Rattle.lhg_row.specs.Enclose.{cut_more, level_turn, moves_excess, turn_level}
 
--- a place that is a cut, and one that is a check point
+-- a place that is a cut
 pub record CutPlace (rows : List PlainRow) (x y : PlainPoint) : Type 0 where
   pub at : Number
   pub cut : IsCut rows x y at

@@ -13,7 +13,7 @@ use Rattle.lhg_math.specs.Tests.{by_bool, false_true, every_from_all, all_from_e
 use Rattle.lhg_num.specs.Arithmetic.{Arithmetic, IsLawful}
 use Rattle.lhg_num.specs.MarkedLaws.{each-value}
 use Rattle.lhg_row.specs.Conjunctions.{and_left_comm}
-use Rattle.lhg_row.specs.Row.{PlainRow, PlainPoint, holds_at}
+use Rattle.lhg_row.specs.Row.{PlainRow, PlainPoint, holds_at, row_with}
 use Rattle.lhg_row.specs.Piece.{PlainPiece, InPiece, in_piece}
 use Rattle.lhg_row.specs.Column.{upper_at, lower_at, level_at, drop_column, coef_at}
 use Rattle.lhg_row.specs.Constant.{never, is_nothing}
@@ -38,18 +38,14 @@ entries_comm a f g [] (d ∷ ds) = refl
 entries_comm a f g (c ∷ cs) [] = refl
 entries_comm a f g (c ∷ cs) (d ∷ ds) = ap (λ x. x ∷ (entries a f g cs ds).value) (add_comm (mul f c) (mul g d)) ∙ ap (λ xs. add (mul g d) (mul f c) ∷ xs) (entries_comm a f g cs ds)
 
--- the row of these coefficients, this kind and this bound
-abbrev row : List Number → Bool → Number → PlainRow
-row cs t b = record { coefs = cs; strict = t; bound = b }
-
 -- a combination has one value in either order of its rows
 pub comb_comm : (a : Arithmetic) (r s : PlainRow) (k : ℕ) → (comb a r s k).value ≡ (comb a s r k).value
 comb_comm a r s k =
     let f = size_of (coef_at k s) in
     let g = size_of (coef_at k r) in
-    ap (λ cs. row cs (r.strict || s.strict) (add (mul f r.bound) (mul g s.bound))) (entries_comm a f g r.coefs s.coefs)
-    ∙ ap (λ t. row (entries a g f s.coefs r.coefs).value t (add (mul f r.bound) (mul g s.bound))) (or_comm r.strict s.strict)
-    ∙ ap (λ b. row (entries a g f s.coefs r.coefs).value (s.strict || r.strict) b) (add_comm (mul f r.bound) (mul g s.bound))
+    ap (λ cs. row_with cs (r.strict || s.strict) (add (mul f r.bound) (mul g s.bound))) (entries_comm a f g r.coefs s.coefs)
+    ∙ ap (λ t. row_with (entries a g f s.coefs r.coefs).value t (add (mul f r.bound) (mul g s.bound))) (or_comm r.strict s.strict)
+    ∙ ap (λ b. row_with (entries a g f s.coefs r.coefs).value (s.strict || r.strict) b) (add_comm (mul f r.bound) (mul g s.bound))
 
 -- ---- a weak constraint that v meets with equality, and another
 quot_up : (c s v : Number) → lt nought c ≡ true → mul c v ≡ s → quot s c ≡ v

@@ -12,7 +12,7 @@ abbrev pub SomeOf : {A : Type 0} → (A → Type 0) → List A → Type 0
 SomeOf P [] = ⊥
 SomeOf P (x ∷ xs) = P x ⊎ SomeOf P xs
 
--- where all members have the first fact and some member has the second, some member has both
+-- what follows from both facts of one member follows where all members have the first and some member has the second
 pub all_some : {A : Type 0} (P Q : A → Type 0) (R : Type 0) → ((x : A) → P x → Q x → R) → (xs : List A) → AllOf P xs → SomeOf Q xs → R
 all_some P Q R f [] h k = absurd k
 all_some P Q R f (x ∷ xs) h (inl k) = f x h.0 k

@@ -1,4 +1,4 @@
--- At which points do a negated, a weak, a shifted and a renamed row hold?
+-- At which points do a negated, a shifted and a renamed row hold?
 use Rattle.std.specs.Prelude.{◌≡◌, ◌≢◌, ℕ, zero, suc, ◌+◌, ◌<◌, not, cond, nat_eq, List, [], ◌∷◌, map, length, get_or, All, AllPairs}
 use Rattle.std.specs.List.{range_with_len}
 use Rattle.std.proofs.Common.{refl, sym, ap, ◌∙◌, arith}

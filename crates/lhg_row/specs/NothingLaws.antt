@@ -34,7 +34,7 @@ trim-never a m =
     ap (λ c. rest c (settled a)) (canon-never a m) ∙ settled-never a m
 
 -- each of many zeros is 0
-noughts-get_or : (n k : ℕ) → get_or (replicate n nought) k nought ≡ nought
+pub noughts-get_or : (n k : ℕ) → get_or (replicate n nought) k nought ≡ nought
 noughts-get_or zero k = refl
 noughts-get_or (suc n) zero = refl
 noughts-get_or (suc n) (suc k) = noughts-get_or n k

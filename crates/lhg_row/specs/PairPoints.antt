@@ -33,7 +33,7 @@ cancel_down c x y h e =
 
 -- f * c = -g * d for positive f and g
 module _ (f g c d : Number) (f_up : lt nought f ≡ true) (g_up : lt nought g ≡ true) (e : mul f c ≡ mul (neg g) d) where
-  -- numbers with the same image under two positive factors are above 0 together
+  -- where positive factors make one number the negative of another, the one is above 0 exactly where the other is below
   sign_up : lt nought c ≡ lt d nought
   sign_up =
       sym (ap (λ w. lt w (mul f c)) (sym (mul-nought f)) ∙ lt-mul f nought c f_up)
@@ -41,7 +41,7 @@ module _ (f g c d : Number) (f_up : lt nought f ≡ true) (g_up : lt nought g �
       ∙ lt-nought_neg (mul g d)
       ∙ ap (λ w. lt (mul g d) w) (sym (mul-nought g)) ∙ lt-mul g d nought g_up
 
-  -- and below 0 together
+  -- and below 0 exactly where the other is above
   sign_down : lt c nought ≡ lt nought d
   sign_down =
       sym (ap (λ w. lt (mul f c) w) (sym (mul-nought f)) ∙ lt-mul f c nought f_up)

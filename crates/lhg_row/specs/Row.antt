@@ -12,6 +12,10 @@ pub record PlainRow : Type 0 where
   pub strict : Bool
   pub bound : Number
 
+-- the row of these coefficients, this kind and this bound
+abbrev pub row_with : List Number → Bool → Number → PlainRow
+row_with cs strict b = record { coefs = cs; strict = strict; bound = b }
+
 -- s, and to it the products of the coefficients and the coordinates, from the first variable to the last
 abbrev pub row_value : Number → List Number → PlainPoint → Number
 row_value s [] xs = s

@@ -16,7 +16,7 @@ use Rattle.lhg_math.specs.BoundPairs.{bounded, above_lesser, under_both}
 use Rattle.lhg_num.specs.Arithmetic.{Arithmetic, IsLawful, scaled, scaled_multiple}
 use Rattle.lhg_num.specs.Marked.{each}
 use Rattle.lhg_row.specs.Conjunctions.{and_left_comm}
-use Rattle.lhg_row.specs.Row.{PlainRow, PlainPoint, row_value, holds_at}
+use Rattle.lhg_row.specs.Row.{PlainRow, PlainPoint, row_value, holds_at, row_with}
 use Rattle.lhg_row.specs.Piece.{PlainPiece, in_piece}
 use Rattle.lhg_row.specs.Constant.{is_constant, varies, is_true, is_false}
 use Rattle.lhg_row.specs.ConstantLaws.{never-holds, false-fails, filter-holds, filter-varies}
@@ -24,15 +24,12 @@ use Rattle.lhg_row.specs.ValueLaws.{scaled_row, holds-scaled}
 use Rattle.lhg_row.specs.Trim.{canon, entries_of, row_of, lead_size, agree, same_direction, bound_order, tighter, placed, gathered, settled, trim}
 
 -- ---- canon
-abbrev built : List Number → Bool → Number → PlainRow
-built cs strict b = record { coefs = cs; strict = strict; bound = b }
-
 -- the last entry is the bound
 pub row_of-end : (strict : Bool) (cs : List Number) (b : Number) → row_of strict (cs ++ b ∷ []) ≡ record { coefs = cs; strict = strict; bound = b }
 row_of-end strict cs b =
     let n = length (cs ++ b ∷ []) - 1 in
     let e : length cs ≡ n = omega (arith, length-append cs (b ∷ [])) in
-    ap (λ ds. built ds strict (get_or (cs ++ b ∷ []) n nought)) (take_at cs (b ∷ []) n e) ∙ ap (built cs strict) (get_or_at cs b [] nought n e)
+    ap (λ ds. row_with ds strict (get_or (cs ++ b ∷ []) n nought)) (take_at cs (b ∷ []) n e) ∙ ap (row_with cs strict) (get_or_at cs b [] nought n e)
 
 -- a row whose entries are scaled is scaled
 pub row_of-scaled : (k : Number) (r : PlainRow) → row_of r.strict (map (λ x. mul k x) (entries_of r)) ≡ scaled_row k r
@@ -76,7 +73,7 @@ module _ (a : Arithmetic) (r s : PlainRow) (r_varies : is_constant r ≡ false) 
       let q = mul g s.bound in
       let er : under (bounded p r.strict) v ≡ holds_at r x = holds-scaled f r x (size_above (lead s.coefs) s_varies) in
       let ev : row_value nought (map (λ z. mul g z) s.coefs) x ≡ v = ap (λ cs. row_value nought cs x) (sym (agree-same a (λ y. y) f g r.coefs s.coefs h)) in
-      let es0 : (t : Bool) → under (bounded q t) v ≡ holds_at (built s.coefs t s.bound) x = λ t. ap (λ w. under (bounded q t) w) (sym ev) ∙ holds-scaled g (built s.coefs t s.bound) x (size_above (lead r.coefs) r_varies) in
+      let es0 : (t : Bool) → under (bounded q t) v ≡ holds_at (row_with s.coefs t s.bound) x = λ t. ap (λ w. under (bounded q t) w) (sym ev) ∙ holds-scaled g (row_with s.coefs t s.bound) x (size_above (lead r.coefs) r_varies) in
       let es : under (bounded q s.strict) v ≡ holds_at s x = es0 s.strict in
       by_bool (lt p q)
       (λ e. rw e (sym er ∙ above_lesser (bounded p r.strict) (bounded q s.strict) v e ∙ ap (λ b. b && under (bounded q s.strict) v) er ∙ ap (λ b. holds_at r x && b) es))

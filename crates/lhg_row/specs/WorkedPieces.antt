@@ -91,7 +91,7 @@ pub record ListRows : Type 0 where
   -- 0 <= x <= 10 minus 2 <= x <= 3 is x >= 0, x < 2 and x > 3, x <= 10
   pub left : SamePieces (minus frac_arithmetic 1 (wide_range ∷ []) (narrow_range ∷ [])).value
       ((not_below (pos 0) ∷ below (pos 2) ∷ []) ∷ (above (negsuc 2) ∷ at_most (pos 10) ∷ []) ∷ [])
-  -- 0 <= x < 2 with 2 <= x <= 10 cover 0 <= x <= 10, and neither does alone
+  -- 0 <= x < 2 with 2 <= x <= 10 cover 0 <= x <= 10, and 2 <= x <= 3 does not
   pub covering : (covered frac_arithmetic 1 (wide_range ∷ []) two_ranges).value ≡ true
   pub not_covering : (covered frac_arithmetic 1 (wide_range ∷ []) (narrow_range ∷ [])).value ≡ false
   -- of 0 <= x < 2 and of 2 <= x <= 10, 2 < x <= 3 meets the second alone

@@ -12,7 +12,7 @@ use crate::rows::{Kind, Row};
 use lhg_num::{Halt, Scalar};
 use std::alloc::Global;
 
-/// The row that holds exactly where the old one does not.
+/// The row that holds exactly where the old one does not. It halts for `Memory` alone.
 pub fn negate<N: Scalar>(alloc: Global, row: &Row<N>) -> Result<Row<N>, Halt>
     ensures row { IsHaltedByMemory result (done (moves.negated row.now)) (λ r. r) }
     ensures points { IfOk result (λ r. (x : PlainPoint) → holds_at r x ≡ not (holds_at row.now x)) }
@@ -24,7 +24,7 @@ pub fn negate<N: Scalar>(alloc: Global, row: &Row<N>) -> Result<Row<N>, Halt>
     })
 }
 
-/// The same row, weak.
+/// The same row, weak. It halts for `Memory` alone.
 pub fn relax<N: Scalar>(alloc: Global, row: &Row<N>) -> Result<Row<N>, Halt>
     ensures { IsHaltedByMemory result (done (relaxed row.now)) (λ r. r) }
 {
@@ -35,7 +35,8 @@ pub fn relax<N: Scalar>(alloc: Global, row: &Row<N>) -> Result<Row<N>, Halt>
     })
 }
 
-/// The row over `vars` variables in which coefficient i of the old one stands at `places[i]`, and all others are 0.
+/// The row over `vars` variables in which coefficient i of the old one stands at `places[i]`, and all others are 0. It halts
+/// for `Memory` alone.
 pub fn rename<N: Scalar>(
     alloc: Global,
     row: &Row<N>,

@@ -60,7 +60,7 @@ pub fn stricter(a: Kind, b: Kind) -> Kind
     }
 }
 
-/// The product f * x, which is x where f is 1.
+/// The product f * x, which is x where f is 1. It answers `Wide` only where the type refuses the product.
 pub fn times<N: Scalar>(f: &N, x: &N) -> Result<N, Wide>
     ensures { IsWideBy result (marked_mul N.arithmetic (N.meaning f.now) (N.meaning x.now)) N.meaning }
 {
@@ -70,7 +70,7 @@ pub fn times<N: Scalar>(f: &N, x: &N) -> Result<N, Wide>
     f.mul(x)
 }
 
-/// Whether f * c is g * d in this sense.
+/// Whether f * c is g * d in this sense. It answers `Wide` only where the type refuses one of the products.
 pub fn agree_at<N: Scalar>(sense: Sense, f: &N, g: &N, c: &N, d: &N) -> Result<bool, Wide>
     ensures { IsWideBy result (calculus.agree_at N.arithmetic (seen_as sense) (N.meaning f.now) (N.meaning g.now) (N.meaning c.now) (N.meaning d.now)) (λ b. b) }
 {
@@ -79,7 +79,8 @@ pub fn agree_at<N: Scalar>(sense: Sense, f: &N, g: &N, c: &N, d: &N) -> Result<b
     Ok(x == turned(sense, y))
 }
 
-/// Whether f * c is g * d in this sense for each two entries of the lists.
+/// Whether f * c is g * d in this sense for each two entries of the lists. It answers `Wide` only where the type refuses one
+/// of the products.
 pub fn agree<N: Scalar>(sense: Sense, f: &N, g: &N, cs: &[N], ds: &[N]) -> Result<bool, Wide>
     requires { length cs.now ≡ length ds.now }
     ensures { IsWideBy result (calculus.agree N.arithmetic (seen_as sense) (N.meaning f.now) (N.meaning g.now) (map N.meaning cs.now) (map N.meaning ds.now)) (λ b. b) }

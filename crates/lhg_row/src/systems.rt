@@ -49,7 +49,7 @@ impl<N: Scalar> System<N> {
         rows
     }
 
-    /// The system of a tidy list.
+    /// The system of a tidy list, each row of which has `vars` coefficients.
     pub fn of(vars: usize, rows: Vec<Row<N>>) -> System<N>
         requires { IsSystem vars rows.items }
         ensures { result ≡ record { width = vars; lines = rows.items } }

@@ -21,7 +21,9 @@ use std::cmp::Ordering;
 /// How many rows a list may have.
 pub const ROW_LIMIT: usize = 8192;
 
-/// The trimmed list, which has the same points.
+/// The trimmed list, which has the same points: rows over `vars` variables, scaled by their type's rule, of those with one
+/// direction the tightest, and `0 < 0` alone where a row without a variable is false. It halts for `Wide` only where the type
+/// refuses an operation of the calculus of this call, for `Rows` only where there are more than `ROW_LIMIT` rows, and for `Memory`.
 pub fn trim<N: Scalar>(alloc: Global, vars: usize, rows: Vec<Row<N>>) -> Result<System<N>, Halt>
     requires { AllWide vars rows.items }
     ensures list { IsHaltedByRows result (calculus.trim N.arithmetic rows.items) (λ s. s.lines) }

@@ -43,7 +43,8 @@ pub fn all_hold<N: Scalar>(rows: &[Row<N>], point: &Point<N>) -> Result<bool, Wi
     Ok(true)
 }
 
-/// The row that holds at x exactly where the old one holds at x + m * by.
+/// The row that holds at x exactly where the old one holds at x + m * by. Its bound is the old one less m times the value of
+/// the row at `by`; it halts for `Wide` only where the type refuses an operation of these, and for `Memory`.
 pub fn shift<N: Scalar>(alloc: Global, row: &Row<N>, by: &Point<N>, m: &N) -> Result<Row<N>, Halt>
     requires { length row.now.coefs ≡ length by.now }
     ensures calculus { IsHaltedByWide result (calculus.shift N.arithmetic row.now by.now (N.meaning m.now)) (λ r. r) }
@@ -75,7 +76,8 @@ fn value<N: Scalar>(coefs: &[N], at: &[N]) -> Result<N, Wide>
     value_from(N::zero(), coefs, at)
 }
 
-/// The start, and to it the products of the coefficients and the coordinates, from the first to the last.
+/// The start, and to it the products of the coefficients and the coordinates, from the first to the last. It answers `Wide`
+/// only where the type refuses one of these products or sums.
 pub fn value_from<N: Scalar>(start: N, coefs: &[N], at: &[N]) -> Result<N, Wide>
     requires { length coefs.now ≡ length at.now }
     ensures { IsWideBy result (calculus.marked_value N.arithmetic (N.meaning start) (map N.meaning coefs.now) (map N.meaning at.now)) N.meaning }
@@ -87,7 +89,7 @@ pub fn value_from<N: Scalar>(start: N, coefs: &[N], at: &[N]) -> Result<N, Wide>
     Ok(sum)
 }
 
-/// sum + c * x
+/// sum + c * x. It answers `Wide` only where the type refuses the product or the sum.
 pub fn plus_product<N: Scalar>(sum: &N, c: &N, x: &N) -> Result<N, Wide>
     ensures { IsWideBy result (calculus.plus_product N.arithmetic (N.meaning sum.now) (N.meaning c.now) (N.meaning x.now)) N.meaning }
 {

@@ -1,10 +1,6 @@
 -- The value of a row's first terms, and the steps of the loop that seeks the tightest bound.
 use Rattle.std.proofs.Common.{◌≡◌, ℕ, suc, ◌+◌, ◌<◌, List, [], ◌∷◌, ◌++◌, length, take, drop, get_or, refl, sym, ap, ◌∙◌, subst}
-use Rattle.std.specs.Prelude.{◌==◌}
-use Rattle.std.specs.Ordering.{ordering_index}
-use Rattle.lhg_math.specs.Number.{Number, lt, nought, sign_of}
-use Rattle.lhg_math.specs.NumberOrder.{lt_asym}
-use Rattle.lhg_math.specs.Tests.{by_bool}
+use Rattle.lhg_math.specs.Number.{Number}
 use Rattle.lhg_num.specs.Arithmetic.{Arithmetic}
 use Rattle.lhg_num.specs.FracArithmetic.{frac_arithmetic}
 use Rattle.lhg_num.specs.Marked.{Marked, and_then, valued, walk, IsRest}
@@ -36,14 +32,6 @@ module _ {S A : Type 0} (f : S → A → Marked S) (xs : List A) (s : S) (i : �
   -- its marks are among those of the whole
   pub walked-part : IsPart whole (f s x)
   walked-part = walk-part f whole s x (drop (i + 1) xs) walk-here
-
--- ---- the side of a row
--- a number is above 0 where its order against 0 says so
-pub greater_is : (x : Number) → (ordering_index (sign_of x) == 2) ≡ lt nought x
-greater_is x =
-    by_bool (lt x nought)
-    (λ e. rw (e, lt_asym x nought e) refl)
-    (λ e. by_bool (lt nought x) (λ f. rw (e, f) refl) (λ f. rw (e, f) refl))
 
 -- ---- the sample
 module _ (n j : ℕ) (rows : PlainPiece) (n_is : n ≡ suc j) where

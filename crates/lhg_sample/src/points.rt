@@ -13,14 +13,15 @@ ghost use Rattle.lhg_row.specs.Sample as calculus;
 ghost use Rattle.lhg_sample.specs.Sides.{bounds_from, tighter_from, plain_bound, plain_bounds};
 
 use crate::bounds::{Limit, Side, chosen, tighten};
-use lhg_elim::eliminate;
+use lhg_elim::{eliminate, is_lower, is_upper};
 use lhg_num::{DivError, Frac, Halt, Scalar, Wide};
 use lhg_poly::Poly;
 use lhg_row::{Point, Row, System, value_from};
 use std::alloc::Global;
-use std::cmp::Ordering;
 
-/// The sample of the piece, which lies in it.
+/// The sample of the piece, which lies in it: a point with one number per variable.
+/// It halts for `Wide` only where the type refuses an operation of the calculus of this call,
+/// for `Rows` only where it has a list past `ROW_LIMIT`, and for `Memory`.
 pub fn sample(alloc: Global, p: &Poly<Frac>) -> Result<Point<Frac>, Halt>
     ensures calculus { IsHaltedByRows result (calculus.sample p.now.width p.now.lines) (λ x. x) }
     ensures point { IfOk result (IsPointOf p.now.width p.now.lines) }
@@ -95,10 +96,9 @@ fn bounds(side: Side, row: &Row<Frac>, j: usize) -> bool
     requires { length row.now.coefs ≡ suc j }
     ensures { result ≡ bounds_from side j row.now }
 {
-    let sign = row.coefs[j].sign();
     match side {
-        Side::Lower => sign == Ordering::Less,
-        Side::Upper => sign == Ordering::Greater,
+        Side::Lower => is_lower(row, j),
+        Side::Upper => is_upper(row, j),
     }
 }
 

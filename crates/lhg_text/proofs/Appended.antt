@@ -1,5 +1,5 @@
 -- Texts that grow in several steps.
-use Rattle.std.proofs.Common.{◌≡◌, ◌++◌, ℕ, List, Result, Ok, Err, OnOk, IfOk, ap, sym, ◌∙◌, append_assoc, append-nil, []}
+use Rattle.std.proofs.Common.{◌≡◌, ◌++◌, ℕ, List, Result, Ok, Err, OnOk, ap, sym, ◌∙◌, append_assoc, append-nil, []}
 
 -- two texts appended one after the other are their join appended
 pub appended : {T E : Type 0} (r : Result T E) (now between before xs ys zs : List ℕ) → OnOk r (now ≡ between ++ ys) → between ≡ before ++ xs → zs ≡ xs ++ ys → OnOk r (now ≡ before ++ zs)
@@ -23,8 +23,3 @@ stepped now before piece rest whole total e f g = ap (λ w. w ++ rest) e ∙ app
 -- nothing is still to come
 pub finished : (now rest total : List ℕ) → rest ≡ [] → now ++ rest ≡ total → now ≡ total
 finished now rest total e g = sym (append-nil now) ∙ ap (λ w. now ++ w) (sym e) ∙ g
-
--- what holds of a value in an answer is weakened there
-pub if_ok_map : {T E : Type 0} (r : Result T E) (P Q : T → Type 0) → ((x : T) → P x → Q x) → IfOk r P → IfOk r Q
-if_ok_map (Ok x) P Q f h = f x h
-if_ok_map (Err e) P Q f h = tt

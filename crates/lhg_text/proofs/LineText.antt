@@ -1,20 +1,19 @@
 -- What does a printed line say, token by token?
-use Rattle.std.proofs.Common.{◌≡◌, ◌+◌, ℕ, List, [], ◌∷◌, ◌++◌, length, refl, sym, ap, ◌∙◌, Bool, true, false, arith, ◌==◌, ◌&&◌, not, Ok}
+use Rattle.std.proofs.Common.{◌≡◌, ◌+◌, ℕ, List, [], ◌∷◌, ◌++◌, length, refl, ap, ◌∙◌, Bool, true, false, arith, ◌==◌, ◌&&◌, not, Ok}
 use Rattle.std.specs.List.{list_all, before_first}
 use Rattle.std.proofs.lemmas.Bool.{and_parts}
 use Rattle.std.proofs.lemmas.Bool.Decides.{nat_tests}
 use Rattle.std.proofs.lemmas.List.Folds.{list_all-append}
 use Rattle.std.proofs.Math.Seq.{take-append_seam, drop-append_seam}
 use Rattle.lhg_lex.specs.PlainToken.{PlainToken}
-use Rattle.lhg_lex.specs.Token.{said, signs_said, is_sign_byte}
+use Rattle.lhg_lex.specs.Token.{said}
 use Rattle.lhg_lex.specs.Longest.{IsLongest}
-use Rattle.lhg_lex.specs.LineTokens.{Spot, without_return, is_separator, taken, tokens_from, tokens_of}
-use Rattle.lhg_lex.proofs.Bytes.{separator_not_word, separator_not_digit, separator_not_sign, pair_needs_sign}
+use Rattle.lhg_lex.specs.LineTokens.{Spot, without_return, taken, tokens_from, tokens_of}
 use Rattle.lhg_lex.proofs.Fronts.{suc_is}
 use Rattle.lhg_lex.proofs.LongestLemmas.{longest_is}
 use Rattle.lhg_lex.proofs.Scanning.{step_over, one_taken}
-use Rattle.lhg_lex.proofs.TokenStarts.{nothing_said, signs_here}
-use Rattle.lhg_math.specs.Tests.{by_bool}
+use Rattle.lhg_lex.proofs.TokenStarts.{nothing_said}
+use Rattle.lhg_lex.proofs.ReadingAnswers.{token_begins}
 use Rattle.lhg_read.specs.PlantText.{said_in}
 
 -- no line feed, no carriage return, and no `#`
@@ -47,18 +46,6 @@ says_space {bytes} {tokens} s = record {
   inner = s.inner;
 }
 
-no_signs : (b : ℕ) (bytes : List ℕ) (token : PlainToken) → is_sign_byte b ≡ false → signs_said (b ∷ bytes) ≡ Ok token → ⊥
-no_signs b [] token n h = let k = rw n at h in absurd cc
-no_signs b (c ∷ []) token n h = let p = pair_needs_sign b c n in let k = rw p at h in absurd cc
-no_signs b (c ∷ d ∷ bytes) token n h = absurd cc
-
--- the first byte of a token is no separator
-no_separator : (b : ℕ) (bytes : List ℕ) (token : PlainToken) → said (b ∷ bytes) ≡ Ok token → is_separator b ≡ false
-no_separator b bytes token h =
-    by_bool (is_separator b)
-    (λ e. absurd (no_signs b bytes token (separator_not_sign b e) (sym (signs_here b bytes (separator_not_word b e) (separator_not_digit b e)) ∙ h)))
-    (λ e. e)
-
 -- all of two texts are inner bytes
 inner-append : (xs ys : List ℕ) → list_all is_inner xs ≡ true → list_all is_inner ys ≡ true → list_all is_inner (xs ++ ys) ≡ true
 inner-append xs ys h k = list_all-append is_inner xs ys ∙ rw (h, k) refl
@@ -70,7 +57,7 @@ says_token (b ∷ bytes) rest token {tokens} t s =
     let n = length (b ∷ bytes) in
     record {
       spots = λ at. record { says = token; from = at; to = at + n } ∷ s.spots (at + n);
-      read = λ at. one_taken at n b (bytes ++ rest) token (no_separator b bytes token t.says) (longest_is _ n t.longest) (ap said (take-append_seam (b ∷ bytes) rest) ∙ t.says)
+      read = λ at. one_taken at n b (bytes ++ rest) token (token_begins b bytes token t.says) (longest_is _ n t.longest) (ap said (take-append_seam (b ∷ bytes) rest) ∙ t.says)
           ∙ ap (taken at n (Ok token)) (ap (tokens_from 0 (at + n)) (drop-append_seam (b ∷ bytes) rest) ∙ s.read (at + n));
       says = λ at. ap (λ ts. token ∷ ts) (s.says (at + n));
       inner = inner-append (b ∷ bytes) rest t.inner s.inner;

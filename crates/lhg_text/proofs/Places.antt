@@ -22,11 +22,8 @@ use Rattle.lhg_text.proofs.SumReads.{ArePlaced}
 
 -- ---- the place of a name
 
-same_bytes : (w : List ℕ) → bytes_eq w w ≡ true
-same_bytes w = (bytes_eq-Decides w w).1 refl
-
 found_at : (w : List ℕ) (before behind : List (List ℕ)) → is_among w before ≡ false → position_or_len (λ name. bytes_eq name w) (before ++ (w ∷ behind)) ≡ length before
-found_at w [] behind h = let s = same_bytes w in rw s refl
+found_at w [] behind h = rw ((bytes_eq-Decides w w).1 refl) refl
 found_at w (n ∷ before) behind h =
     let p = or_parts (bytes_eq n w) (is_among w before) h in
     let e = p.0 in

@@ -6,12 +6,10 @@ use Rattle.std.proofs.lemmas.Bool.{and_parts}
 use Rattle.std.proofs.lemmas.Bool.Decides.{nat_tests}
 use Rattle.std.proofs.lemmas.List.{length-map, length-take-le, take-append-drop}
 use Rattle.std.proofs.Common.{drop-cons}
-use Rattle.lhg_math.specs.Number.{unit}
 use Rattle.lhg_math.specs.Tests.{Every}
 use Rattle.lhg_lex.specs.Lines.{lines_of}
 use Rattle.lhg_lex.specs.LineTokens.{Spot, tokens_of}
-use Rattle.lhg_lex.specs.Longest.{longest}
-use Rattle.lhg_lex.specs.PlainToken.{PlainToken, word, number}
+use Rattle.lhg_lex.specs.PlainToken.{PlainToken, word}
 use Rattle.lhg_lex.proofs.TextLawProofs.{text_laws}
 use Rattle.lhg_row.specs.Constant.{varies}
 use Rattle.lhg_row.specs.Members.{AllOf}
@@ -24,10 +22,11 @@ use Rattle.lhg_plant.specs.Printable.{HasVariables, IsPrintable}
 use Rattle.lhg_plant.specs.Proper.{IsLocation, IsSwitch, IsProper}
 use Rattle.lhg_read.specs.Names.{vars_of}
 use Rattle.lhg_read.specs.PlantLine.{PlantLine, WrittenSwitch, safe, switch, end, line_of}
-use Rattle.lhg_read.specs.PlantText.{Block, IsBlock, block_lines, invs_of, flows_of, safes_of, location_of, switch_at, said_in, IsHead, IsPlant, IsPlantText}
+use Rattle.lhg_read.specs.PlantText.{Block, IsBlock, block_lines, invs_of, flows_of, safes_of, location_of, switch_at, said_in, IsPlant, IsPlantText}
 use Rattle.lhg_read.specs.PlantText as read
 use Rattle.lhg_read.specs.Term.{place_of}
 use Rattle.lhg_read.specs.TokenText.{token_line, token_lines}
+use Rattle.lhg_read.proofs.PlantContinues.{head_spots, head_tokens, head_is}
 use Rattle.lhg_text.specs.Short.{AllShort, IsShortLocation, IsShortPlant}
 use Rattle.lhg_text.specs.PlantText.{line, spaced, location_name, location_lines, switch_line, plant_lines, plant_text}
 use Rattle.lhg_text.proofs.LineText.{is_inner, Says, says_space, says_token, line_says}
@@ -188,17 +187,6 @@ switch_names locs (s ∷ switches) = ap (λ ws. s.name ∷ ws) (switch_names loc
 
 -- ---- the plant
 
-head_spots : List Spot
-head_spots = record { says = word (codes "lhg"); from = 0; to = 3 } ∷ record { says = number unit; from = 4; to = 5 } ∷ []
-
-head_says : tokens_of (codes "lhg 1") ≡ Ok head_spots
-unfolding head_spots tokens_of longest unit
-head_says = refl
-
-head_is : IsHead head_spots
-unfolding head_spots
-head_is = record { from = 0; to = 3; at = 4; is = refl }
-
 vars_words : (ws : List (List ℕ)) → AllOf IsVariable ws → AllOf IsWord ws
 vars_words [] h = tt
 vars_words (w ∷ ws) h = (record { word = h.0.name.word }, vars_words ws h.1)
@@ -263,7 +251,7 @@ module _ (a : PlainPlant) (proper : IsProper a) (printable : IsPrintable a) (sho
   unfolding rest head_spots
   all_lines =
       let vars = token_lines-cons (spaced (codes "vars" ∷ a.vars)) rest (word (codes "vars")) (map (λ w. word w) a.vars) rest_tokens.tokens vars_tokens rest_tokens.are in
-      let head = head_says in
+      let head = head_tokens in
       rw (head, vars) refl
 
   -- the text of a plant is a plant of the grammar, and this is its value

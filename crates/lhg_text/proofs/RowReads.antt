@@ -1,11 +1,12 @@
 -- Which row do the tokens of a printed row give?
-use Rattle.std.proofs.Common.{◌≡◌, ◌<◌, ◌≤◌, ◌+◌, ◌==◌, ℕ, suc, List, [], ◌∷◌, ◌++◌, length, map, refl, sym, ap, ◌∙◌, Bool, true, false, not, if◌then◌else◌, ◌&&◌, Some, arith, append_assoc, append-nil, ne_eqb, nat_le, codes}
+use Rattle.std.proofs.Common.{◌≡◌, ◌<◌, ◌≤◌, ◌+◌, ◌==◌, ℕ, suc, List, [], ◌∷◌, ◌++◌, length, map, refl, sym, ap, ◌∙◌, Bool, true, false, not, if◌then◌else◌, Some, arith, append_assoc, append-nil, ne_eqb, nat_le, codes}
 use Rattle.std.specs.Prelude.{count_by}
 use Rattle.std.specs.List.{list_all, list_any, range_with_len}
 use Rattle.std.proofs.lemmas.Bool.{eqb-true}
 use Rattle.std.proofs.lemmas.Bool.Decides.{nat_tests}
 use Rattle.std.proofs.lemmas.List.{length-map}
 use Rattle.std.proofs.lemmas.List.Folds.{list_all-append}
+use Rattle.std.proofs.Math.Bool.{and-false}
 use Rattle.lhg_math.specs.Number.{Number, neg, lt, nought}
 use Rattle.lhg_math.specs.NumberOrder.{lt_irrefl, lt-nought_neg}
 use Rattle.lhg_math.specs.NumberRing.{neg_neg, neg_nought}
@@ -248,11 +249,6 @@ no_one_word w [] o (x ∷ behind) h = refl
 no_one_word w (x ∷ []) o behind h = refl
 no_one_word w (x ∷ y ∷ before) o behind h = refl
 
--- a test that fails
-pub and_false : (x : Bool) → (x && false) ≡ false
-and_false true = refl
-and_false false = refl
-
 row_cut : (flip strict : Bool) (terms tokens : List PlainToken) → all_fail is_operator terms ≡ true → all_fail is_operator tokens ≡ true
     → cut is_operator (terms ++ (operator_token flip strict ∷ tokens)) ≡ parted terms ((operator_token flip strict, tokens) ∷ [])
 row_cut flip strict terms tokens h k =
@@ -291,7 +287,7 @@ module _ (form : Form) (vars : List (List ℕ)) (axes : List Axis) (placed : Are
       let o = operator_token flip r.strict in
       let k = no_one_word (codes "keep") terms o number (operator_no_word (codes "keep") flip r.strict) in
       let c = row_cut flip r.strict terms number (terms_spared is_operator axes (map (turned flip) r.coefs) no_operator) (number_spared is_operator (turned flip r.bound) no_operator) in
-      rw (k, and_false (is_jump form), c) (pair_by flip r above wide)
+      rw (k, and-false (is_jump form), c) (pair_by flip r above wide)
 
   -- the tokens of a printed row are a constraint whose one row is this
   pub constraint_reads : (r : PlainRow) → IsRowOf form vars r → constraint_of form vars (row_tokens axes r) ≡ Some (r ∷ [])

@@ -1,16 +1,16 @@
 -- The terms of a row from the place of its first coefficient that is not zero.
 use Rattle.std.proofs.Common.{◌≡◌, ◌<◌, ◌≤◌, ◌+◌, ◌++◌, ◌∷◌, [], ℕ, zero, suc, List, length, map, drop, get_or, refl, sym, ap, ◌∙◌, arith, add-one, drop-cons, codes}
-use Rattle.std.proofs.Common.{true, false, not, Bool, cond, Some, None, ◌&&◌}
+use Rattle.std.proofs.Common.{true, false, not, Bool, cond, Some, None}
 use Rattle.std.specs.List.{position_or_len, position}
 use Rattle.std.proofs.lemmas.Bool.Decides.{nat_tests}
 use Rattle.std.proofs.lemmas.List.{drop-map, length-append, length-map}
 use Rattle.std.proofs.Math.ListN.{drop_of_length-le}
-use Rattle.lhg_math.specs.Number.{Number, neg, lt, nought}
-use Rattle.lhg_math.specs.NumberOrder.{lt-neg, lt-nought_neg}
-use Rattle.lhg_math.specs.NumberRing.{neg_nought}
+use Rattle.lhg_math.specs.Number.{Number, nought}
 use Rattle.lhg_math.specs.Signs.{is_nought, lead}
 use Rattle.lhg_math.specs.Tests.{by_bool}
+use Rattle.lhg_math.specs.SignLaws.{is_nought-neg}
 use Rattle.lhg_row.proofs.Steps.{drop_cons}
+use Rattle.lhg_lex.proofs.Fronts.{suc_is}
 use Rattle.lhg_text.specs.RowText.{terms_from, terms_text, next_term, next_terms, term_text, turned, jump_names}
 
 -- ---- lists from a place on
@@ -63,28 +63,13 @@ length-jump_names vars = length-append vars (map (λ v. v ++ codes "'") vars) �
 abbrev pub place_of : List Number → ℕ
 place_of cs = position_or_len (λ c. not (is_nought c)) cs
 
-one-more : (n : ℕ) → 1 + n ≡ suc n
-one-more n = omega arith
-
 -- a coefficient that is 0 in front
 pub place-nought : (c : Number) (cs : List Number) → is_nought c ≡ true → place_of (c ∷ cs) ≡ suc (place_of cs)
-place-nought c cs e = rw e (one-more (place_of cs))
+place-nought c cs e = rw e (suc_is (place_of cs))
 
 -- one that is not
 pub place-other : (c : Number) (cs : List Number) → is_nought c ≡ false → place_of (c ∷ cs) ≡ zero
 place-other c cs e = rw e refl
-
-and_comm : (a b : Bool) → (a && b) ≡ (b && a)
-and_comm true true = refl
-and_comm true false = refl
-and_comm false true = refl
-and_comm false false = refl
-
-neg-lt_nought : (x : Number) → lt (neg x) nought ≡ lt nought x
-neg-lt_nought x = ap (λ w. lt (neg x) w) (sym neg_nought) ∙ lt-neg x nought
-
-is_nought-neg : (x : Number) → is_nought (neg x) ≡ is_nought x
-is_nought-neg x = rw (neg-lt_nought x, lt-nought_neg x) (and_comm (not (lt nought x)) (not (lt x nought)))
 
 -- a number that is negated is zero where it was
 pub is_nought-turned : (flip : Bool) (x : Number) → is_nought (turned flip x) ≡ is_nought x
@@ -115,7 +100,7 @@ pub lead-place : (cs : List Number) (d : Number) → place_of cs < length cs →
 lead-place [] d h = absurd (omega arith)
 lead-place (c ∷ cs) d h =
     by_bool (is_nought c)
-    (λ e. let p = place-nought c cs e in rw (e, one-more (place_of cs)) (lead-place cs d (omega arith)))
+    (λ e. let p = place-nought c cs e in rw (e, suc_is (place_of cs)) (lead-place cs d (omega arith)))
     (λ e. rw e refl)
 
 -- and where there is none the leading one is zero

@@ -3,6 +3,7 @@ use Rattle.std.proofs.Common.{◌≡◌, ◌≤◌, ℕ, List, [], ◌∷◌, �
 use Rattle.std.specs.Option.{option_and_then}
 use Rattle.std.proofs.lemmas.Bool.Decides.{nat_tests}
 use Rattle.std.proofs.lemmas.List.Folds.{list_all-append}
+use Rattle.std.proofs.Math.Bool.{and-false}
 use Rattle.lhg_lex.specs.PlainToken.{PlainToken, sign}
 use Rattle.lhg_row.specs.Members.{AllOf}
 use Rattle.lhg_row.specs.Piece.{PlainPiece}
@@ -14,7 +15,7 @@ use Rattle.lhg_read.specs.Signs.{is_one_word, is_comma}
 use Rattle.lhg_read.specs.declared.forms.Form.{Form}
 use Rattle.lhg_text.specs.RowText.{turned, leads_negative}
 use Rattle.lhg_text.proofs.Cutting.{all_fail, parted, cut-before, cut-marked}
-use Rattle.lhg_text.proofs.RowReads.{IsRowOf, AreAxes, constraint_reads, no_one_word, operator_no_word, and_false}
+use Rattle.lhg_text.proofs.RowReads.{IsRowOf, AreAxes, constraint_reads, no_one_word, operator_no_word}
 use Rattle.lhg_text.proofs.RowTokens.{Axis, terms_tokens, operator_token, number_tokens, row_tokens_by, row_tokens, next_rows_tokens, rows_tokens}
 use Rattle.lhg_text.proofs.SumReads.{SparesSums, terms_spared, number_spared}
 
@@ -78,4 +79,4 @@ module _ (form : Form) (vars : List (List ℕ)) (axes : List Axis) (placed : Are
   rows_read (r ∷ rs) h few_rows =
       let all = no_word_by (codes "all") (leads_negative r) r (next_rows_tokens axes rs) in
       let still = no_word_by (codes "still") (leads_negative r) r (next_rows_tokens axes rs) in
-      rw (all, still, and_false (is_flow form)) (list_read r rs h few_rows)
+      rw (all, still, and-false (is_flow form)) (list_read r rs h few_rows)

@@ -168,7 +168,8 @@ fn push_plant(text: &mut Vec<u8>, plant: &Plant) -> Result<(), AllocError>
     text.extend_from_slice(b"end\n")
 }
 
-/// The text of a plant.
+/// The text of a plant in which each row has a variable, and no variable is named like a keyword for rows, as in each plant
+/// that was read. It halts for `Memory` alone.
 pub fn print_plant(alloc: Global, plant: &Plant) -> Result<Vec<u8>, Halt>
     requires { IsPrintable (plain_plant plant.now) }
     ensures text { IsHaltedByMemory result (done (plant_text (plain_plant plant.now))) (λ v. v.items) }

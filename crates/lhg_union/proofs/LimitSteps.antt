@@ -2,7 +2,7 @@
 use Rattle.std.proofs.Common.{◌≡◌, ℕ, ◌+◌, ◌-◌, ◌<◌, ◌≤◌, List, [], ◌∷◌, ◌++◌, length, drop, get_or, true, false, not, refl, sym, ap, ◌∙◌, arith}
 use Rattle.std.specs.Prelude.{nat_lt}
 use Rattle.std.proofs.lemmas.Bool.{lt-ltb, le-ltb, ltb-true, ltb-false, or_left, or_right}
-use Rattle.std.proofs.lemmas.List.{length-append, drop_all}
+use Rattle.std.proofs.lemmas.List.{length-append}
 use Rattle.lhg_math.specs.Tests.{by_bool}
 use Rattle.lhg_row.specs.Piece.{PlainPiece}
 use Rattle.lhg_row.specs.System.{PlainSystem}
@@ -23,12 +23,6 @@ module _ (ps : List PlainSystem) (i : ℕ) (p : PlainSystem) (p_is : p ≡ get_o
   -- a piece with as many rows or fewer
   pub count-on : rows ≤ left → (left - rows) + row_count (lines_of ps) ≡ most + row_count (lines_of (drop (i + 1) ps))
   count-on h = let k = here in omega arith
-
--- all pieces
-pub count-end : (ps : List PlainSystem) (i left most : ℕ) → length ps ≤ i → left + row_count (lines_of ps) ≡ most + row_count (lines_of (drop i ps)) → true ≡ not (nat_lt most (row_count (lines_of ps)))
-count-end ps i left most h kept =
-    let none : row_count (lines_of (drop i ps)) ≡ 0 = ap (λ qs. row_count (lines_of qs)) (drop_all i ps h) in
-    ap not (sym (le-ltb most (row_count (lines_of ps)) (omega arith)))
 
 -- the rows of two lists together
 pub row_count-append : (ps qs : List PlainPiece) → row_count (ps ++ qs) ≡ row_count ps + row_count qs

@@ -1,6 +1,6 @@
 -- What do lists of pieces keep when members are taken from them or put at their end?
 use Rattle.std.proofs.Common.{◌≡◌, ℕ, zero, suc, ◌+◌, ◌<◌, ◌≤◌, List, [], ◌∷◌, ◌++◌, length, take, get_or, Bool, ◌||◌, Option, Some, None, refl, sym, ap, ◌∙◌, subst, arith}
-use Rattle.std.specs.Prelude.{option_map, ◌==◌}
+use Rattle.std.specs.Prelude.{◌==◌}
 use Rattle.std.proofs.lemmas.Bool.{ne_eqb}
 use Rattle.std.proofs.lemmas.List.{take_more, take_all, map-append}
 use Rattle.lhg_num.specs.Arithmetic.{Arithmetic}
@@ -14,28 +14,16 @@ use Rattle.lhg_row.specs.System.{PlainSystem}
 use Rattle.lhg_row.specs.Lists.{listed, is_nil}
 use Rattle.lhg_row.specs.PieceFacts.{IsPoly, AllPolys}
 use Rattle.lhg_row.specs.MinusLaws.{all-append}
-use Rattle.lhg_union.specs.PolyLists.{lines_of, as_list, AllVars, ArePolys}
+use Rattle.lhg_union.specs.PolyLists.{lines_of, AllVars, ArePolys}
 
 -- the rows of two lists together
 pub lines_of-append : (ps qs : List PlainSystem) → lines_of (ps ++ qs) ≡ lines_of ps ++ lines_of qs
 lines_of-append ps qs = map-append (λ (p : PlainSystem). p.lines) ps qs
 
--- the rows of the piece, where there is one
-abbrev pub map_lines : Option PlainSystem → Option PlainPiece
-map_lines o = option_map (λ p. p.lines) o
-
 -- a piece that may be there stands before a list
 pub listed-append : (o : Option PlainPiece) (ps : List PlainPiece) → listed o ps ≡ listed o [] ++ ps
 listed-append None ps = refl
 listed-append (Some p) ps = refl
-
--- the rows of a piece that may be there
-pub lines_of-as_list : (o : Option PlainSystem) (lines : Option PlainPiece) → map_lines o ≡ lines → lines_of (as_list o) ≡ listed lines []
-lines_of-as_list o lines e = on o ∙ ap (λ l. listed l []) e
-  where
-    on : (o : Option PlainSystem) → lines_of (as_list o) ≡ listed (map_lines o) []
-    on None = refl
-    on (Some p) = refl
 
 -- pieces over n variables with points
 pub polys_over : (n : ℕ) (ps : List PlainSystem) → AllVars n ps → ArePolys ps → AllPolys n (lines_of ps)

@@ -12,7 +12,9 @@ use lhg_num::{Halt, Scalar};
 use lhg_poly::Poly;
 use std::alloc::Global;
 
-/// The points of some p and of no q, as a list of pieces.
+/// The points of some p and of no q, as a list of pieces. All are over the same variables.
+/// It halts for `Wide` only where the type refuses an operation of the calculus of this call,
+/// for `Rows` and `Pieces` only where it has a list past `ROW_LIMIT`, `PIECE_LIMIT` or `LIST_ROW_LIMIT`, and for `Memory`.
 pub fn minus<N: Scalar>(alloc: Global, ps: &[Poly<N>], qs: &[Poly<N>]) -> Result<Vec<Poly<N>>, Halt>
     requires { HaveVars ps.now qs.now }
     ensures calculus { (n : ℕ) → AllVars n ps.now → AllVars n qs.now → IsHaltedBy result (calculus.minus N.arithmetic n (lines_of ps.now) (lines_of qs.now)) (λ v. lines_of v.items) }
@@ -27,7 +29,9 @@ pub fn minus<N: Scalar>(alloc: Global, ps: &[Poly<N>], qs: &[Poly<N>]) -> Result
     Ok(left)
 }
 
-/// Whether each point of some p is a point of some q.
+/// Whether each point of some p is a point of some q. All are over the same variables.
+/// It halts for `Wide` only where the type refuses an operation of the calculus of this call,
+/// for `Rows` and `Pieces` only where it has a list past `ROW_LIMIT`, `PIECE_LIMIT` or `LIST_ROW_LIMIT`, and for `Memory`.
 pub fn covered<N: Scalar>(alloc: Global, ps: &[Poly<N>], qs: &[Poly<N>]) -> Result<bool, Halt>
     requires { HaveVars ps.now qs.now }
     ensures calculus { (n : ℕ) → AllVars n ps.now → AllVars n qs.now → IsHaltedBy result (calculus.covered N.arithmetic n (lines_of ps.now) (lines_of qs.now)) (λ b. b) }

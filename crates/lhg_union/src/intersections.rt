@@ -13,7 +13,10 @@ use lhg_num::{Halt, Scalar};
 use lhg_poly::{Poly, meet};
 use std::alloc::Global;
 
-/// The points of some p and of some q: for each p, then for each q, their meet where there is one.
+/// The points of some p and of some q: for each p, then for each q, their meet where there is one. All are over the same
+/// variables.
+/// It halts for `Wide` only where the type refuses an operation of the calculus of this call,
+/// for `Rows` and `Pieces` only where it has a list past `ROW_LIMIT`, `PIECE_LIMIT` or `LIST_ROW_LIMIT`, and for `Memory`.
 pub fn meet_lists<N: Scalar>(
     alloc: Global,
     ps: &[Poly<N>],

@@ -1,10 +1,10 @@
 use Rattle.std.proofs.Common.{◌<◌, ◌+◌, ◌-◌, ◌≡◌, ◌∷◌, [], ◌∙◌, ap, length, map, arith}
 use Rattle.lhg_row.specs.Piece.{PlainPiece}
 use Rattle.std.proofs.Common.{List}
+use Rattle.std.proofs.lemmas.List.{map-append}
 use Rattle.lhg_plant.specs.Plant.{PlainLocation}
 use Rattle.lhg_plant.specs.Views.{plain_location}
 use Rattle.lhg_read.specs.PlantSteps.{with_safe}
-use Rattle.lhg_read.proofs.PlantParts.{map-append}
 use Rattle.lhg_read.proofs.DraftSteps.{set_last}
 use Rattle.lhg_read.proofs.draft.push_safe.Goals as goal
 
