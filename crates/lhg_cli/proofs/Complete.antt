@@ -1,7 +1,6 @@
 -- An answer to a plant in which nothing moves is its report, and an answer to any other input refuses it.
-use Rattle.std.proofs.Common.{◌≡◌, ℕ, List, Option, Some, None, IfSome, ◌⊎◌, inl, inr, refl, arith, drop, sym, ap, ◌∙◌, subst}
-use Rattle.std.proofs.lemmas.List.{take-append-drop}
-use Rattle.lhg_lex.specs.FirstBad.{IsFirstBad}
+use Rattle.std.proofs.Common.{◌≡◌, ℕ, List, Option, Some, None, IfSome, ◌⊎◌, inl, inr, refl, arith, sym, ap, ◌∙◌, subst}
+use Rattle.lhg_lex.proofs.FirstBadProofs.{none_bad}
 use Rattle.lhg_math.specs.Tests.{false_true}
 use Rattle.lhg_plant.specs.SafeRegion.{safe_region}
 use Rattle.lhg_read.proofs.TextLawProofs.{text_laws}
@@ -11,17 +10,10 @@ use Rattle.lhg_cli.specs.Refusal.{IsRefusal, IsSomePlantText}
 use Rattle.lhg_cli.specs.declared.status.Status.{Status}
 use Rattle.lhg_cli.specs.declared.status.Status.TheVariants as status
 
--- lines with a first bad one are no text
-no_text : (IsText : List (List ℕ) → Type 0) (lines : List (List ℕ)) (n : ℕ) → IsFirstBad IsText lines n → ¬ IsText lines
-no_text IsText lines n h t = elim h.bad [
-  | inl p ↦ p.1 (drop n lines, subst IsText (sym (take-append-drop n lines)) t)
-  | inr p ↦ p.1 t
-]
-
 -- a plant that is taken is not refused as a text
 not_refused : (bytes text : List ℕ) → IsTaken bytes → ¬ IsRefusal bytes text
 not_refused bytes text t (inl long) = let l = long.long in let s = t.short in omega (arith, l, s)
-not_refused bytes text t (inr bad) = no_text IsSomePlantText _ bad.number bad.bad.first (t.plant, t.reads)
+not_refused bytes text t (inr bad) = none_bad IsSomePlantText _ bad.number (t.plant, t.reads) bad.bad.first
 
 -- the plant of the answer is the one that is taken
 same_plant : (bytes text : List ℕ) (s : Status) (a : IsAnswerOf bytes s text) (t : IsTaken bytes) → t.plant ≡ a.plant

@@ -107,6 +107,61 @@ mod tests {
         }
     }
 
+    // It fails at its first call alone, and gives and takes one byte at each later one.
+    #[derive(Drop)]
+    struct Recovering {
+        called: bool,
+    }
+
+    impl Read for Recovering {
+        fn read(&mut self, buf: &mut [u8]) -> io::Result<usize> {
+            if !self.called {
+                self.called = true;
+                return Err(io::ErrorKind::Other.into());
+            }
+            Ok(buf.len().min(1))
+        }
+    }
+
+    impl Write for Recovering {
+        fn write(&mut self, buf: &[u8]) -> io::Result<usize> {
+            if !self.called {
+                self.called = true;
+                return Err(io::ErrorKind::Other.into());
+            }
+            Ok(buf.len().min(1))
+        }
+
+        fn flush(&mut self) -> io::Result<()> {
+            Ok(())
+        }
+    }
+
+    #[test]
+    fn goes_on_after_a_fault(rt: HostRuntime) -> Result<(), Fail> {
+        let mut source = StdSource::new(Recovering { called: false });
+        assert_eq!(rt; source.read(&mut [0; 4]), Err(Failed));
+        assert_eq!(rt; source.read(&mut [0; 4]), Ok(1));
+        assert_eq!(rt; source.faults, 1);
+        let mut sink = StdSink::new(Recovering { called: false });
+        assert_eq!(rt; sink.write(b"report"), Err(Failed));
+        assert_eq!(rt; sink.write(b"report"), Ok(1));
+        assert_eq!(rt; sink.faults, 1);
+        Ok(())
+    }
+
+    #[test]
+    fn takes_a_long_text(rt: HostRuntime) -> Result<(), Fail> {
+        let text = [b'x'; 70_000];
+        let mut sink = StdSink::new(Vec::new(rt.alloc()));
+        assert_eq!(rt; write_all(&mut sink, text.as_slice()), Ok(()));
+        assert_eq!(rt; sink.writer.as_slice(), text.as_slice());
+        let mut source = StdSource::new(text.as_slice());
+        let read = read_all(rt.alloc(), &mut source, 70_000)?;
+        assert_eq!(rt; read.as_slice(), text.as_slice());
+        Ok(())
+    }
+
     #[test]
     fn reads_from_a_reader(rt: HostRuntime) -> Result<(), Fail> {
         let mut source = StdSource::new(b"vars x\n".as_slice());

@@ -109,3 +109,25 @@ fn walk(rt: HostRuntime) -> Result<(), Fail> {
     assert_eq!(rt; lines.lines_read(), 5);
     Ok(())
 }
+
+#[test]
+fn refusals_say_their_names(rt: HostRuntime) -> Result<(), Fail> {
+    let whats = [
+        (What::BadByte, "BadByte in line 3, column 4"),
+        (What::LongNumber, "LongNumber in line 3, column 4"),
+        (What::ZeroDenominator, "ZeroDenominator in line 3, column 4"),
+        (What::NotHere, "NotHere in line 3, column 4"),
+    ];
+    for (what, message) in whats {
+        let stop = ReadStop::Bad {
+            line: 3,
+            column: 4,
+            what,
+        };
+        let said = format!(in rt.alloc(); "{stop}")?;
+        assert_eq!(rt; said.as_str(), message);
+    }
+    let said = format!(in rt.alloc(); "{}", ReadStop::Memory)?;
+    assert_eq!(rt; said.as_str(), "Memory");
+    Ok(())
+}

@@ -145,3 +145,22 @@ fn generic_code(rt: HostRuntime) -> Result<(), Fail> {
     assert_eq!(rt; zeros, [Frac::zero(), Frac::zero()]);
     Ok(())
 }
+
+#[test]
+fn refusals_say_their_names(rt: HostRuntime) -> Result<(), Fail> {
+    let halts = [
+        (Halt::Wide, "Wide"),
+        (Halt::Rows, "Rows"),
+        (Halt::Pieces, "Pieces"),
+        (Halt::Memory, "Memory"),
+    ];
+    for (halt, name) in halts {
+        let said = format!(in rt.alloc(); "{halt}")?;
+        assert_eq!(rt; said.as_str(), name);
+    }
+    for (error, name) in [(DivError::Zero, "Zero"), (DivError::Wide, "Wide")] {
+        let said = format!(in rt.alloc(); "{error}")?;
+        assert_eq!(rt; said.as_str(), name);
+    }
+    Ok(())
+}

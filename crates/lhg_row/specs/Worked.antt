@@ -55,7 +55,7 @@ trimmed rows = (trim frac_arithmetic rows).value
 abbrev pub empty : ℕ → PlainPiece → Bool
 empty n rows = (is_empty frac_arithmetic n (trimmed rows)).value
 
--- ---- the worked rows
+-- ---- the worked examples
 -- trim
 pub record TrimRows : Type 0 where
   -- no rows, and no variables

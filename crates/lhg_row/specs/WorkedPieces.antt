@@ -64,7 +64,7 @@ SamePiece o p = option_map seen_rows o ≡ option_map seen_rows p
 abbrev pub IsAt : PlainPoint → List (ℤ × ℕ) → Type 0
 IsAt x at = map seen x ≡ at
 
--- ---- the worked rows
+-- ---- the worked examples
 -- entails, make, meet, closure, includes and project
 pub record PieceRows : Type 0 where
   -- x <= 3 entails x < 4 and not x < 3

@@ -105,7 +105,7 @@ fn push_list(text: &mut Vec<u8>, vars: &[Name], rows: &[Row<Frac>]) -> Result<()
     }
 }
 
-/// Appends a list of rows over the variables. After want of memory the first part of the list may stand in the text.
+/// Appends a list of rows over the variables. After want of memory nothing is said of the text.
 pub fn push_rows(text: &mut Vec<u8>, vars: &[Name], rows: &[Row<Frac>]) -> Result<(), AllocError>
     requires { AllWide (length vars.now) rows.now }
     ensures text { OnOk result (text.new.items ≡ text.old.items ++ rows_text vars.now rows.now) }

@@ -1,5 +1,5 @@
 //! The ends in memory, read to the end and written to.
-use crate::{Fault, INPUT_LIMIT, MemSink, MemSource, ReadAll, read_all, write_all};
+use crate::{Failed, Fault, INPUT_LIMIT, MemSink, MemSource, ReadAll, read_all, write_all};
 use std::test::Fail;
 
 const NEVER: u32 = 99;
@@ -59,5 +59,23 @@ fn writes_until_a_fault(rt: HostRuntime) -> Result<(), Fail> {
         assert_eq!(rt; write_all(&mut sink, text), want, "{room}");
         assert_eq!(rt; sink.held(), held, "{room}");
     }
+    Ok(())
+}
+
+#[test]
+fn refusals_say_their_names(rt: HostRuntime) -> Result<(), Fail> {
+    let refusals = [
+        (ReadAll::Fault, "Fault"),
+        (ReadAll::TooLong, "TooLong"),
+        (ReadAll::Memory, "Memory"),
+    ];
+    for (refusal, name) in refusals {
+        let said = format!(in rt.alloc(); "{refusal}")?;
+        assert_eq!(rt; said.as_str(), name);
+    }
+    let fault = format!(in rt.alloc(); "{Fault}")?;
+    assert_eq!(rt; fault.as_str(), "Fault");
+    let failed = format!(in rt.alloc(); "{Failed}")?;
+    assert_eq!(rt; failed.as_str(), "Failed");
     Ok(())
 }
