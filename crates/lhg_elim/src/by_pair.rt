@@ -16,7 +16,7 @@ use std::alloc::Global;
 
 /// Puts the combinations of each row over variable k, beside those at places i and j, with the one of these two that bounds k
 /// from the other side at the end, over the variables other than k.
-pub fn push_beside<N: Scalar>(
+pub(crate) fn push_beside<N: Scalar>(
     alloc: Global,
     out: &mut Vec<Row<N>>,
     rows: &[Row<N>],

@@ -16,7 +16,7 @@ use std::alloc::Global;
 
 /// Puts the combinations of each upper with each lower row at the end, over the variables other than k. Where the list is
 /// past its limit after some upper row, `Rows` is the answer at once.
-pub fn push_sides<N: Scalar>(
+pub(crate) fn push_sides<N: Scalar>(
     alloc: Global,
     out: &mut Vec<Row<N>>,
     rows: &[Row<N>],

@@ -11,7 +11,7 @@ use lhg_row::Row;
 use lhg_row::scaling::{size, stricter, times};
 use std::alloc::Global;
 
-/// The row |s_k| * r + |r_k| * s, strict where either is. Where the coefficients at k have opposite signs, k cancels, and
+/// The row |s_k| * r + |r_k| * s of two rows over the same variables, strict where either is. Where the coefficients at k have opposite signs, k cancels, and
 /// the row says of the other variables that some value of k satisfies both rows. It halts for `Wide` only where the type
 /// refuses one of the products or sums, and for `Memory`.
 pub fn comb<N: Scalar>(alloc: Global, r: &Row<N>, s: &Row<N>, k: usize) -> Result<Row<N>, Halt>

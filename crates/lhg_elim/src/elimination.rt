@@ -15,7 +15,7 @@ use lhg_num::{Halt, Scalar};
 use lhg_row::{Row, System, trim};
 use std::alloc::Global;
 
-/// The list over the variables other than k. It holds at a point exactly where some value of variable k satisfies the system.
+/// The list over the variables other than k, which is one of the system's. It holds at a point exactly where some value of variable k satisfies the system.
 /// It halts for `Wide` only where the type refuses an operation of the calculus of this
 /// call, for `Rows` only where it has a list past `ROW_LIMIT`, and for `Memory`.
 pub fn eliminate<N: Scalar>(alloc: Global, sys: &System<N>, k: usize) -> Result<System<N>, Halt>

@@ -12,7 +12,11 @@ use lhg_row::Row;
 use std::alloc::Global;
 
 /// The rows that do not speak of variable k, over the others.
-pub fn levels<N: Scalar>(alloc: Global, rows: &[Row<N>], k: usize) -> Result<Vec<Row<N>>, Halt>
+pub(crate) fn levels<N: Scalar>(
+    alloc: Global,
+    rows: &[Row<N>],
+    k: usize,
+) -> Result<Vec<Row<N>>, Halt>
     requires { HasVariable k rows.now }
     ensures { IsHaltedByMemory result (done (map (drop_column k) (filter (level_at k) rows.now))) (λ v. v.items) }
 {

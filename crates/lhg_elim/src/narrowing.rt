@@ -11,7 +11,7 @@ use lhg_row::Row;
 use std::alloc::Global;
 
 /// A copy of the row over the variables other than k.
-pub fn copied<N: Scalar>(alloc: Global, row: &Row<N>, k: usize) -> Result<Row<N>, Halt>
+pub(crate) fn copied<N: Scalar>(alloc: Global, row: &Row<N>, k: usize) -> Result<Row<N>, Halt>
     requires { k < length row.now.coefs }
     ensures { IsHaltedByMemory result (done (drop_column k row.now)) (λ r. r) }
 {
@@ -28,7 +28,12 @@ pub fn copied<N: Scalar>(alloc: Global, row: &Row<N>, k: usize) -> Result<Row<N>
 }
 
 /// The combination of two rows over the variables other than k.
-pub fn combined<N: Scalar>(alloc: Global, r: &Row<N>, s: &Row<N>, k: usize) -> Result<Row<N>, Halt>
+pub(crate) fn combined<N: Scalar>(
+    alloc: Global,
+    r: &Row<N>,
+    s: &Row<N>,
+    k: usize,
+) -> Result<Row<N>, Halt>
     requires same { length r.now.coefs ≡ length s.now.coefs }
     requires there { k < length r.now.coefs }
     ensures { IsHaltedByWide result (valued (drop_column k) (calculus.comb N.arithmetic r.now s.now k)) (λ row. row) }

@@ -10,7 +10,7 @@ use lhg_row::Row;
 use lhg_row::scaling::{Sense, agree, agree_at, lead_size};
 
 /// The places of the first two weak rows over variable k that are an equation.
-pub fn pair<N: Scalar>(rows: &[Row<N>], k: usize) -> Result<Option<(usize, usize)>, Wide>
+pub(crate) fn pair<N: Scalar>(rows: &[Row<N>], k: usize) -> Result<Option<(usize, usize)>, Wide>
     requires { HasVariable k rows.now }
     ensures { IsWideBy result (calculus.pair_at N.arithmetic k 0 rows.now) (λ o. o) }
 {

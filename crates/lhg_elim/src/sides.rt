@@ -9,7 +9,7 @@ use lhg_row::Row;
 use std::cmp::Ordering;
 
 /// Whether the row says nothing of variable k.
-pub fn is_level<N: Scalar>(row: &Row<N>, k: usize) -> bool
+pub(crate) fn is_level<N: Scalar>(row: &Row<N>, k: usize) -> bool
     requires { k < length row.now.coefs }
     ensures { result ≡ column.level_at k row.now }
 {
@@ -41,7 +41,7 @@ pub fn is_lower<N: Scalar>(row: &Row<N>, k: usize) -> bool
 }
 
 /// Whether two rows bound variable k from one side.
-pub fn same_side<N: Scalar>(r: &Row<N>, s: &Row<N>, k: usize) -> bool
+pub(crate) fn same_side<N: Scalar>(r: &Row<N>, s: &Row<N>, k: usize) -> bool
     requires first { k < length r.now.coefs }
     requires second { k < length s.now.coefs }
     ensures { result ≡ calculus.same_side k r.now s.now }

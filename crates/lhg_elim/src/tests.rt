@@ -112,3 +112,31 @@ fn combines(rt: HostRuntime) -> Result<(), Fail> {
     assert_eq!(rt; shown(&both), (Some((1, 1)), Kind::Strict, (3, 1)));
     Ok(())
 }
+
+// x and y times this number are at most 0 in sum.
+fn steep(alloc: Global, y: Frac) -> Result<Row<Frac>, Halt>
+    ensures { IfOk result (λ r. length r.coefs ≡ 2) }
+{
+    let coefs = [Frac::from(1), y].to_vec(alloc)?;
+    Ok(Row {
+        coefs,
+        kind: Kind::Weak,
+        bound: Frac::from(0),
+    })
+}
+
+#[test]
+fn refuses_wide_numbers(rt: HostRuntime) -> Result<(), Fail> {
+    let upper = steep(rt.alloc(), Frac::new(i128::MAX, 1)?)?;
+    let lower = steep(rt.alloc(), Frac::from(-2))?;
+    let both = comb(rt.alloc(), &upper, &lower, 1);
+    assert_eq!(rt; both.err(), Some(Halt::Wide));
+    let mut rows = Vec::new(rt.alloc());
+    rows.push(upper)?;
+    rows.push(lower)?;
+    let sys = trim(rt.alloc(), 2, rows)?;
+    assert!(rt; sys.vars() == 2);
+    assert_eq!(rt; eliminate(rt.alloc(), &sys, 1).err(), Some(Halt::Wide));
+    assert_eq!(rt; is_empty(rt.alloc(), &sys), Err(Halt::Wide));
+    Ok(())
+}

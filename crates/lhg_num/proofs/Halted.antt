@@ -1,13 +1,12 @@
 -- A call that hands a halt on.
-use Rattle.std.proofs.Common.{◌≡◌, Bool, true, Result, Ok, Err, sym, ◌∙◌, subst}
+use Rattle.std.proofs.Common.{◌≡◌, true, Result, Ok, Err, sym, ◌∙◌, subst}
 use Rattle.std.specs.Prelude.{IfOk}
 use Rattle.std.specs.Result.{IsErrAnd}
-use Rattle.lhg_num.specs.Limits.{IsExact}
-use Rattle.lhg_num.specs.Marked.{Marked, refusing, IsRest}
+use Rattle.lhg_num.specs.Marked.{Marked, IsRest}
 use Rattle.lhg_num.specs.MarkedLaws.{IsPart}
 use Rattle.lhg_num.specs.declared.refusals.Halt.{Halt}
 use Rattle.lhg_num.specs.declared.refusals.Halt.TheVariants.{Wide, Rows, Pieces, Memory}
-use Rattle.lhg_num.specs.Halting.{IsHaltedBy, IsHaltedByRows, IsHaltedByWide, IsHaltedByPieces, IsHaltedByMemory, IsWideBy}
+use Rattle.lhg_num.specs.Halting.{IsHaltedBy, IsHaltedByRows, IsHaltedByWide, IsHaltedByPieces, IsHaltedByMemory}
 
 -- ---- from a word to a wider one
 -- from numbers to rows
@@ -26,10 +25,6 @@ all_from_rows (Err Rows) m f h = h
 all_from_rows (Err Pieces) m f h = absurd h
 all_from_rows (Err Memory) m f h = h
 
--- from numbers to all
-pub all_from_wide : {T A : Type 0} (r : Result T Halt) (m : Marked A) (f : T → A) → IsHaltedByWide r m f → IsHaltedBy r m f
-all_from_wide r m f h = all_from_rows r m f (rows_from_wide r m f h)
-
 -- from pieces to all
 pub all_from_pieces : {T A : Type 0} (r : Result T Halt) (m : Marked A) (f : T → A) → IsHaltedByPieces r m f → IsHaltedBy r m f
 all_from_pieces (Ok x) m f h = h
@@ -38,36 +33,7 @@ all_from_pieces (Err Rows) m f h = absurd h
 all_from_pieces (Err Pieces) m f h = h
 all_from_pieces (Err Memory) m f h = h
 
--- from memory to numbers
-pub wide_from_memory : {T A : Type 0} (r : Result T Halt) (m : Marked A) (f : T → A) → IsHaltedByMemory r m f → IsHaltedByWide r m f
-wide_from_memory (Ok x) m f h = h
-wide_from_memory (Err Wide) m f h = absurd h
-wide_from_memory (Err Rows) m f h = h
-wide_from_memory (Err Pieces) m f h = h
-wide_from_memory (Err Memory) m f h = h
-
--- from memory to rows
-pub rows_from_memory : {T A : Type 0} (r : Result T Halt) (m : Marked A) (f : T → A) → IsHaltedByMemory r m f → IsHaltedByRows r m f
-rows_from_memory r m f h = rows_from_wide r m f (wide_from_memory r m f h)
-
--- from memory to pieces
-pub pieces_from_memory : {T A : Type 0} (r : Result T Halt) (m : Marked A) (f : T → A) → IsHaltedByMemory r m f → IsHaltedByPieces r m f
-pieces_from_memory (Ok x) m f h = h
-pieces_from_memory (Err Wide) m f h = h
-pieces_from_memory (Err Rows) m f h = h
-pieces_from_memory (Err Pieces) m f h = absurd h
-pieces_from_memory (Err Memory) m f h = h
-
--- from memory to all
-pub all_from_memory : {T A : Type 0} (r : Result T Halt) (m : Marked A) (f : T → A) → IsHaltedByMemory r m f → IsHaltedBy r m f
-all_from_memory r m f h = all_from_wide r m f (wide_from_memory r m f h)
-
 -- ---- operations of a type
--- an exact operation answers Wide by its mark
-pub wide_from_exact : {T E A : Type 0} (r : Result T E) (refused : Bool) (f : T → A) (v : A) → IsExact r refused (λ x. f x ≡ v) → IsWideBy r (refusing refused v) f
-wide_from_exact (Ok x) refused f v h = h.1
-wide_from_exact (Err e) refused f v h = h
-
 -- a Wide that became a halt
 pub wide_halts : {T A : Type 0} (r : Result T Halt) (m : Marked A) (f : T → A) → IsErrAnd r (λ e. e ≡ Wide) → m.wide ≡ true → IsHaltedByWide r m f
 wide_halts (Ok x) m f h k = absurd h

@@ -99,10 +99,6 @@ walk-step f whole s t x xs r e =
 pub walk-part : {S A : Type 0} (f : S → A → Marked S) (whole : Marked S) (s : S) (x : A) (xs : List A) → IsRest whole (walk f s (x ∷ xs)) → IsPart whole (f s x)
 walk-part f whole s x xs r = rest_part whole (walk f s (x ∷ xs)) (f s x) r (and_then-part (f s x) (λ u. walk f u xs))
 
--- the same for any list function that does one member and then the rest
-pub built-start : {B : Type 0} (whole : Marked (List B)) → IsBuilt whole [] whole
-built-start whole = record { same = refl; part = part_self whole }
-
 -- one more value is built, and the rest is left
 pub built-step : {B : Type 0} (whole : Marked (List B)) (out : List B) (m : Marked B) (rest : Marked (List B)) (y : B)
     → IsBuilt whole out (and_then m (λ z. valued (λ ys. z ∷ ys) rest)) → y ≡ m.value → IsBuilt whole (out ++ y ∷ []) rest

@@ -111,7 +111,8 @@ impl Frac {
         self.denominator
     }
 
-    /// The quotient. It is `Zero` where the divisor is 0.
+    /// The quotient. It is `Zero` exactly where the divisor is 0, and else `Wide` exactly where a number that is formed is past
+    /// 2^127 - 1 in size.
     pub fn div(&self, other: &Frac) -> Result<Frac, DivError>
         ensures { IsDivided result (is_nought other.now) (frac_refuses_div self.now other.now) (λ q. q ≡ quot self.now other.now) }
     {
@@ -121,7 +122,7 @@ impl Frac {
         Ok(self.mul(&other.inverted())?)
     }
 
-    /// Half of the sum.
+    /// Half of the sum. It is `Wide` exactly where a number that is formed is past 2^127 - 1 in size.
     pub fn mid(&self, other: &Frac) -> Result<Frac, Wide>
         ensures { IsExact result (frac_refuses_mid self.now other.now) (λ q. q ≡ mid self.now other.now) }
     {

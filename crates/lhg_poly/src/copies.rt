@@ -28,7 +28,7 @@ pub fn copy_rows<N: Scalar>(alloc: Global, rows: &[Row<N>]) -> Result<Vec<Row<N>
 }
 
 /// Puts copies of the rows at the end of the list.
-pub fn append_rows<N: Scalar>(
+pub(crate) fn append_rows<N: Scalar>(
     alloc: Global,
     out: &mut Vec<Row<N>>,
     rows: &[Row<N>],

@@ -35,7 +35,7 @@ pub fn includes<N: Scalar>(alloc: Global, p: &Poly<N>, q: &Poly<N>) -> Result<bo
 }
 
 /// Whether the row holds at each point of the rows.
-pub fn rows_entail<N: Scalar>(
+pub(crate) fn rows_entail<N: Scalar>(
     alloc: Global,
     vars: usize,
     mut rows: Vec<Row<N>>,
@@ -51,7 +51,11 @@ pub fn rows_entail<N: Scalar>(
 }
 
 /// Whether the rows have no common point.
-pub fn have_no_point<N: Scalar>(alloc: Global, vars: usize, rows: Vec<Row<N>>) -> Result<bool, Halt>
+pub(crate) fn have_no_point<N: Scalar>(
+    alloc: Global,
+    vars: usize,
+    rows: Vec<Row<N>>,
+) -> Result<bool, Halt>
     requires { AllWide vars rows.items }
     ensures { IsHaltedByRows result (calculus.are_empty N.arithmetic vars rows.items) (λ b. b) }
 {

@@ -3,6 +3,7 @@
 
 mod copies;
 mod entailing;
+pub mod laws;
 mod making;
 mod meeting;
 mod polys;

@@ -64,7 +64,7 @@ impl<N: Scalar> Poly<N> {
         Ok(Poly::of(self.system.vars(), rows))
     }
 
-    /// Whether the point is in the piece. It answers `Wide` only where whether one of its rows holds at the point is so answered.
+    /// Whether the point, with one coordinate per variable, is in the piece. It answers `Wide` only where whether one of its rows holds at the point is so answered.
     pub fn has(&self, point: &Point<N>) -> Result<bool, Wide>
         requires { length point.now ≡ self.now.width }
         ensures calculus { IsWideBy result (calculus.piece_truth N.arithmetic self.now.lines point.now) (λ b. b) }

@@ -13,7 +13,8 @@ use lhg_num::{Halt, Scalar};
 use lhg_row::{Row, System};
 use std::alloc::Global;
 
-/// The points over the first `keep` variables that some values of the later ones complete, and none where there are none.
+/// The points over the first `keep` variables, which are at most all, that some values of the later ones complete, and none
+/// where there are none.
 /// It halts for `Wide` only where the type refuses an operation of the calculus of this call,
 /// for `Rows` only where it has a list past `ROW_LIMIT`, and for `Memory`.
 pub fn project<N: Scalar>(

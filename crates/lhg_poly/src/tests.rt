@@ -257,3 +257,31 @@ fn projects_to_all(rt: HostRuntime) -> Result<(), Fail> {
     assert!(rt; are(both.rows(), &[UP_TO_Y, Y_BELOW_3]));
     Ok(())
 }
+
+// The piece of the points at which x and y times this number are at most 0 in sum.
+fn steep(alloc: Global, y: Frac) -> Result<Poly<Frac>, Fail>
+    ensures { IfOk result (λ p. p.width ≡ 2) }
+{
+    let coefs = [Frac::from(1), y].to_vec(alloc)?;
+    let mut rows = Vec::new(alloc);
+    rows.push(Row {
+        coefs,
+        kind: Kind::Weak,
+        bound: Frac::from(0),
+    })?;
+    let made = make(alloc, 2, rows)?;
+    Ok(made.ok_or("none")?)
+}
+
+#[test]
+fn refuses_wide_numbers(rt: HostRuntime) -> Result<(), Fail> {
+    let p = steep(rt.alloc(), Frac::new(i128::MAX, 1)?)?;
+    let q = steep(rt.alloc(), Frac::from(-2))?;
+    let r = steep(rt.alloc(), Frac::from(2))?;
+    let line = row(rt.alloc(), &(1, 2, Kind::Weak, 0))?;
+    assert_eq!(rt; are_apart(rt.alloc(), &p, &q), Err(Halt::Wide));
+    assert_eq!(rt; meet(rt.alloc(), &p, &q).err(), Some(Halt::Wide));
+    assert_eq!(rt; entails(rt.alloc(), &p, &line), Err(Halt::Wide));
+    assert_eq!(rt; includes(rt.alloc(), &r, &p), Err(Halt::Wide));
+    Ok(())
+}

@@ -34,13 +34,10 @@ pub record TurnLaws : Type 0 where
       → (value_at r x ≡ value_at r y) ↔ ((p : Number) → value_at r (along x y p) ≡ value_at r x)
   pub one_turn : (r : PlainRow) (x y : PlainPoint) → length x ≡ length y → HasOneTurn r x y
 
--- a piece along a segment: it is convex; between two points of its closure it holds everywhere or nowhere;
--- from one of its points towards one of its closure it holds; and where it holds all between, the ends are in its closure
+-- a piece along a segment: it is convex; from one of its points towards one of its closure it holds; and where it holds all between, the ends are in its closure
 pub record ConvexLaws : Type 0 where
   pub convex : (rows : PlainPiece) (x y : PlainPoint) (p : Number) → length x ≡ length y → InPiece rows x → InPiece rows y → IsPlace p
       → InPiece rows (along x y p)
-  pub between : (rows : PlainPiece) (x y : PlainPoint) (p q : Number) → length x ≡ length y → InClosure rows x → InClosure rows y → IsInner p
-      → InPiece rows (along x y p) → IsInner q → InPiece rows (along x y q)
   pub towards : (rows : PlainPiece) (x y : PlainPoint) (p : Number) → length x ≡ length y → InPiece rows x → InClosure rows y → IsInner p
       → InPiece rows (along x y p)
   pub ends : (rows : PlainPiece) (x y : PlainPoint) → length x ≡ length y → ((p : Number) → IsInner p → InPiece rows (along x y p))

@@ -1,11 +1,8 @@
 -- Which laws do the operations on pieces and on lists of pieces obey?
-use Rattle.std.specs.Prelude.{List, ◌≡◌, ◌↔◌, ℕ, ◌-◌, ◌≤◌, length}
-use Rattle.lhg_math.specs.Number.{Number}
-use Rattle.lhg_math.specs.Places.{IsInner}
+use Rattle.std.specs.Prelude.{List, ◌≡◌, ℕ, ◌-◌, ◌≤◌, length}
 use Rattle.lhg_num.specs.Arithmetic.{Arithmetic, IsLawful}
 use Rattle.lhg_row.specs.Row.{PlainRow, PlainPoint}
-use Rattle.lhg_row.specs.Piece.{PlainPiece, InPiece, in_piece, InClosure, in_some}
-use Rattle.lhg_row.specs.Segment.{along}
+use Rattle.lhg_row.specs.Piece.{PlainPiece, in_piece, in_some}
 use Rattle.lhg_row.specs.Width.{AllWide}
 use Rattle.lhg_row.specs.HasValue.{HasPoint, IsEmptiness}
 use Rattle.lhg_row.specs.Pieces.{are_empty, entails, make, meet, closure, includes, project}
@@ -25,15 +22,6 @@ pub record PieceLaws : Type 0 where
   pub includes : (a : Arithmetic) (n : ℕ) (p q : PlainPiece) → IsLawful a → AllWide n p → AllWide n q → IsInclusion n p q (includes a n p q).value
   pub project : (a : Arithmetic) (n kept : ℕ) (rows : PlainPiece) → IsLawful a → kept ≤ n → AllWide n rows
       → IsProjection kept (n - kept) rows (project a n kept rows).value
-
--- the fact "relaxed closure": the relaxed rows of a piece with a point x hold at y exactly where the piece holds at each point strictly between x and y
-abbrev pub RelaxedClosureLaw : Type 0
-RelaxedClosureLaw = (p : PlainPiece) (x y : PlainPoint) → length x ≡ length y → InPiece p x → InClosure p y ↔ ((u : Number) → IsInner u → InPiece p (along x y u))
-
--- the fact "between lies inside": where two points satisfy the relaxed rows and one point strictly between them is in the piece, all are
-abbrev pub BetweenLaw : Type 0
-BetweenLaw = (p : PlainPiece) (x y : PlainPoint) (u v : Number) → length x ≡ length y → InClosure p x → InClosure p y → IsInner u → InPiece p (along x y u) → IsInner v
-    → InPiece p (along x y v)
 
 -- what is made of lists of pieces, for every lawful type
 pub record ListLaws : Type 0 where

@@ -35,8 +35,8 @@ pub fn relax<N: Scalar>(alloc: Global, row: &Row<N>) -> Result<Row<N>, Halt>
     })
 }
 
-/// The row over `vars` variables in which coefficient i of the old one stands at `places[i]`, and all others are 0. It halts
-/// for `Memory` alone.
+/// The row over `vars` variables in which coefficient i of the old one stands at `places[i]`, and all others are 0. There is
+/// one place for each coefficient; the places differ and are below `vars`. It halts for `Memory` alone.
 pub fn rename<N: Scalar>(
     alloc: Global,
     row: &Row<N>,

@@ -34,7 +34,7 @@ pub fn law_check_points()
     ensures finite { FiniteLaw }
 {}
 
-/// Points and rows are stored as plain data.
+/// Points and rows are plain data: there is a code of them.
 pub fn law_code()
     ensures point { Coded PlainPoint }
     ensures row { Coded PlainRow }

@@ -1,16 +1,10 @@
 // What callers may rest on: the laws of the calculus of pieces.
-ghost use Rattle.lhg_row.specs.PieceLaws.{PieceLaws, RelaxedClosureLaw, BetweenLaw, ListLaws, MembershipLaw, SampleLaw};
+ghost use Rattle.lhg_row.specs.PieceLaws.{PieceLaws, ListLaws, MembershipLaw, SampleLaw};
 ghost use Rattle.lhg_row.specs.WorkedPieces.{PieceRows, ListRows, LimitRows, SampleRows};
 
 /// What is made of rows and of one or two pieces has exactly the points that it should.
 pub fn law_pieces()
     ensures { PieceLaws }
-{}
-
-/// What the relaxed rows of a piece with a point hold, and what lies between two points of its closure.
-pub fn law_closure()
-    ensures relaxed { RelaxedClosureLaw }
-    ensures between { BetweenLaw }
 {}
 
 /// What is made of lists of pieces has exactly the points that it should.
@@ -19,7 +13,7 @@ pub fn law_lists()
 {}
 
 /// Whether a point is in a piece, and in some piece of a list, is told exactly.
-pub fn law_truths()
+pub fn law_membership()
     ensures { MembershipLaw }
 {}
 

@@ -32,7 +32,7 @@ pub fn size<N: Scalar>(x: &N) -> N
 }
 
 /// The first number that is not 0, and 0 where there is none.
-pub fn lead<N: Scalar>(coefs: &[N]) -> N
+pub(crate) fn lead<N: Scalar>(coefs: &[N]) -> N
     ensures { N.meaning result ≡ signs.lead (map N.meaning coefs.now) }
 {
     for coef in coefs {

@@ -4,7 +4,7 @@ ghost use Rattle.lhg_row.specs.Width.{AllWide};
 
 use crate::scaling::{Sense, agree, agree_at, lead, lead_size, size, stricter, times};
 use crate::{Kind, Point, ROW_LIMIT, Row, System, holds, negate, relax, rename, shift, trim};
-use lhg_num::{Frac, Halt};
+use lhg_num::{Frac, Halt, Wide};
 use std::alloc::Global;
 use std::process::Abort;
 use std::test::Fail;
@@ -169,5 +169,23 @@ fn scaled_comparisons(rt: HostRuntime) -> Result<(), Fail> {
     assert!(rt; agree_at(Sense::Opposite, &two, &one, &two, &Frac::from(-4))?);
     assert!(rt; agree(Sense::Same, &two, &one, &cs, &ds)?);
     assert!(rt; !agree(Sense::Opposite, &two, &one, &cs, &ds)?);
+    Ok(())
+}
+
+#[test]
+fn refuses_wide_numbers(rt: HostRuntime) -> Result<(), Fail> {
+    let far = Frac::new(i128::MAX, 1)?;
+    let two = Frac::from(2);
+    let at = Point {
+        at: [far].to_vec(rt.alloc())?,
+    };
+    let weak = over_x(rt.alloc(), Kind::Weak, 3)?;
+    assert_eq!(rt; shift(rt.alloc(), &weak, &at, &two).err(), Some(Halt::Wide));
+    let steep = Row {
+        coefs: [two].to_vec(rt.alloc())?,
+        kind: Kind::Weak,
+        bound: Frac::from(3),
+    };
+    assert_eq!(rt; holds(&steep, &at), Err(Wide));
     Ok(())
 }

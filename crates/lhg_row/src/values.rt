@@ -16,8 +16,8 @@ use lhg_num::{Halt, Scalar, Wide};
 use std::alloc::Global;
 use std::cmp::Ordering;
 
-/// Whether the row holds at the point. It answers `Wide` only where the value of the row at the point, or its
-/// comparison with the bound, applies an operation to operands that it refuses.
+/// Whether the row holds at the point, which has one coordinate per variable. It answers `Wide` only where the value of the
+/// row at the point, or its comparison with the bound, applies an operation to operands that it refuses.
 pub fn holds<N: Scalar>(row: &Row<N>, point: &Point<N>) -> Result<bool, Wide>
     requires { length row.now.coefs ≡ length point.now }
     ensures calculus { IsWideBy result (calculus.truth N.arithmetic row.now point.now) (λ b. b) }
@@ -28,7 +28,8 @@ pub fn holds<N: Scalar>(row: &Row<N>, point: &Point<N>) -> Result<bool, Wide>
     Ok(fits(row.kind, order))
 }
 
-/// Whether all rows hold at the point. It answers `Wide` only where whether one of the rows holds at the point is so answered.
+/// Whether all rows hold at the point, which has one coordinate per variable. It answers `Wide` only where whether one of the
+/// rows holds at the point is so answered.
 pub fn all_hold<N: Scalar>(rows: &[Row<N>], point: &Point<N>) -> Result<bool, Wide>
     requires { AllWide (length point.now) rows.now }
     ensures calculus { IsWideBy result (piece_truth N.arithmetic rows.now point.now) (λ b. b) }

@@ -7,7 +7,7 @@ use Rattle.lhg_row.specs.Column.{lower_at, upper_at}
 use Rattle.lhg_row.specs.Sample.{greater_of, lesser_of}
 use Rattle.lhg_sample.specs.declared.bounds.Side.{Side}
 use Rattle.lhg_sample.specs.declared.bounds.Side.TheVariants.{Lower, Upper}
-use Rattle.lhg_sample.specs.declared.bounds.Limit as held
+use Rattle.lhg_sample.specs.declared.bounds.Bound as held
 
 -- the row bounds variable j from this side
 abbrev pub bounds_from : Side → ℕ → PlainRow → Bool
@@ -20,9 +20,9 @@ tighter_from Lower = greater_of
 tighter_from Upper = lesser_of
 
 -- a bound that the code holds
-abbrev pub plain_bound : held.Limit → Bound
+abbrev pub plain_bound : held.Bound → Bound
 plain_bound b = record { at = b.at; strict = b.strict }
 
 -- the same where there may be none
-abbrev pub plain_bounds : Option held.Limit → Option Bound
+abbrev pub plain_bounds : Option held.Bound → Option Bound
 plain_bounds o = option_map plain_bound o

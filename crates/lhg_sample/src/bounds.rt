@@ -10,7 +10,7 @@ use std::cmp::Ordering;
 
 /// The side from which a variable is bounded.
 #[derive(Clone, Copy, Debug, PartialEq, Eq)]
-pub enum Side {
+pub(crate) enum Side {
     /// From below.
     Lower,
     /// From above.
@@ -19,13 +19,13 @@ pub enum Side {
 
 /// A bound on a variable, which may be reached unless it is strict.
 #[derive(Clone, Copy, Debug)]
-pub struct Limit {
+pub(crate) struct Bound {
     pub at: Frac,
     pub strict: bool,
 }
 
 /// The tighter of the bound kept so far and the next one of its side, where there is one kept.
-pub fn tighten(side: Side, kept: Option<Limit>, next: Limit) -> Result<Option<Limit>, Wide>
+pub(crate) fn tighten(side: Side, kept: Option<Bound>, next: Bound) -> Result<Option<Bound>, Wide>
     ensures { IsWideBy result (calculus.tighten (tighter_from side) (plain_bounds kept) (plain_bound next)) plain_bounds }
 {
     match kept {
@@ -38,11 +38,11 @@ pub fn tighten(side: Side, kept: Option<Limit>, next: Limit) -> Result<Option<Li
 }
 
 // The tighter of two bounds, by the order of the first against the second.
-fn tighter(side: Side, kept: Limit, next: Limit, order: Ordering) -> Limit
+fn tighter(side: Side, kept: Bound, next: Bound, order: Ordering) -> Bound
     ensures { plain_bound result ≡ tighter_from side (plain_bound kept) (plain_bound next) order }
 {
     match (side, order) {
-        (_, Ordering::Equal) => Limit {
+        (_, Ordering::Equal) => Bound {
             at: kept.at,
             strict: kept.strict || next.strict,
         },
@@ -54,7 +54,7 @@ fn tighter(side: Side, kept: Limit, next: Limit, order: Ordering) -> Limit
 }
 
 /// The value between two bounds.
-pub fn chosen(lower: Option<Limit>, upper: Option<Limit>) -> Result<Frac, Wide>
+pub(crate) fn chosen(lower: Option<Bound>, upper: Option<Bound>) -> Result<Frac, Wide>
     ensures { IsWideBy result (calculus.chosen (plain_bounds lower) (plain_bounds upper)) (λ x. x) }
 {
     match (lower, upper) {
@@ -66,7 +66,7 @@ pub fn chosen(lower: Option<Limit>, upper: Option<Limit>) -> Result<Frac, Wide>
 }
 
 // The bound, or 1 more where it is strict.
-fn above(lower: Limit) -> Result<Frac, Wide>
+fn above(lower: Bound) -> Result<Frac, Wide>
     ensures { IsWideBy result (calculus.chosen (Some (plain_bound lower)) None) (λ x. x) }
 {
     if lower.strict {
@@ -77,7 +77,7 @@ fn above(lower: Limit) -> Result<Frac, Wide>
 }
 
 // The bound, or 1 less where it is strict.
-fn below(upper: Limit) -> Result<Frac, Wide>
+fn below(upper: Bound) -> Result<Frac, Wide>
     ensures { IsWideBy result (calculus.chosen None (Some (plain_bound upper))) (λ x. x) }
 {
     if upper.strict {
@@ -88,7 +88,7 @@ fn below(upper: Limit) -> Result<Frac, Wide>
 }
 
 // The lower bound, or the upper one where the lower is strict, or the middle where both are.
-fn between(lower: Limit, upper: Limit) -> Result<Frac, Wide>
+fn between(lower: Bound, upper: Bound) -> Result<Frac, Wide>
     ensures { IsWideBy result (calculus.chosen (Some (plain_bound lower)) (Some (plain_bound upper))) (λ x. x) }
 {
     if !lower.strict {

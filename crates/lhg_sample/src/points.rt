@@ -12,7 +12,7 @@ ghost use Rattle.lhg_row.specs.PieceFacts.{IsPointOf};
 ghost use Rattle.lhg_row.specs.Sample as calculus;
 ghost use Rattle.lhg_sample.specs.Sides.{bounds_from, tighter_from, plain_bound, plain_bounds};
 
-use crate::bounds::{Limit, Side, chosen, tighten};
+use crate::bounds::{Bound, Side, chosen, tighten};
 use lhg_elim::{eliminate, is_lower, is_upper};
 use lhg_num::{DivError, Frac, Halt, Scalar, Wide};
 use lhg_poly::Poly;
@@ -60,7 +60,7 @@ fn value_of(rows: &[Row<Frac>], j: usize, at: &[Frac]) -> Result<Frac, Wide>
 }
 
 // The tightest of the bounds on variable j from one side.
-fn tightest(side: Side, rows: &[Row<Frac>], j: usize, at: &[Frac]) -> Result<Option<Limit>, Wide>
+fn tightest(side: Side, rows: &[Row<Frac>], j: usize, at: &[Frac]) -> Result<Option<Bound>, Wide>
     requires wide { AllWide (suc j) rows.now }
     requires same { length at.now ≡ j }
     ensures { IsWideBy result (calculus.tightest (tighter_from side) (bounds_from side j) j at.now rows.now) plain_bounds }
@@ -75,11 +75,11 @@ fn tightest(side: Side, rows: &[Row<Frac>], j: usize, at: &[Frac]) -> Result<Opt
 // The bound kept so far, and with it that of the row where it bounds variable j from this side.
 fn tightened(
     side: Side,
-    kept: Option<Limit>,
+    kept: Option<Bound>,
     row: &Row<Frac>,
     j: usize,
     at: &[Frac],
-) -> Result<Option<Limit>, Wide>
+) -> Result<Option<Bound>, Wide>
     requires wide { length row.now.coefs ≡ suc j }
     requires same { length at.now ≡ j }
     ensures { IsWideBy result (calculus.tightened (tighter_from side) (bounds_from side j) j at.now (plain_bounds kept) row.now) plain_bounds }
@@ -103,7 +103,7 @@ fn bounds(side: Side, row: &Row<Frac>, j: usize) -> bool
 }
 
 // The bound that the row gives to variable j.
-fn bound_at(row: &Row<Frac>, j: usize, at: &[Frac]) -> Result<Limit, Wide>
+fn bound_at(row: &Row<Frac>, j: usize, at: &[Frac]) -> Result<Bound, Wide>
     requires wide { length row.now.coefs ≡ suc j }
     requires same { length at.now ≡ j }
     requires there { is_nought (coef_at j row.now) ≡ false }
@@ -112,7 +112,7 @@ fn bound_at(row: &Row<Frac>, j: usize, at: &[Frac]) -> Result<Limit, Wide>
     let sum = value(&row.coefs, at)?;
     let slack = row.bound.sub(&sum)?;
     let quotient = divided(&slack, &row.coefs[j])?;
-    Ok(Limit {
+    Ok(Bound {
         at: quotient,
         strict: row.kind.is_strict(),
     })

@@ -18,7 +18,11 @@ use lhg_row::{Row, negate};
 use std::alloc::Global;
 
 /// The points of p that are not points of q, as a list of pieces.
-pub fn minus_piece<N: Scalar>(alloc: Global, p: Poly<N>, q: &Poly<N>) -> Result<Vec<Poly<N>>, Halt>
+pub(crate) fn minus_piece<N: Scalar>(
+    alloc: Global,
+    p: Poly<N>,
+    q: &Poly<N>,
+) -> Result<Vec<Poly<N>>, Halt>
     requires { p.width ≡ q.now.width }
     ensures calculus { IsHaltedByRows result (calculus.minus_piece N.arithmetic q.now.width p.lines q.now.lines) (λ v. lines_of v.items) }
     ensures vars { IfOk result (λ v. AllVars q.now.width v.items) }

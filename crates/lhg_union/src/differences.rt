@@ -48,6 +48,7 @@ fn minus_one<N: Scalar>(alloc: Global, ps: Vec<Poly<N>>, q: &Poly<N>) -> Result<
     ensures vars { IfOk result (λ v. AllVars q.now.width v.items) }
     ensures poly { IsPoly q.now.width q.now.lines }
 {
+    // A call on q tells its invariant, for `poly`.
     let _ = q.rows();
     let mut out = Vec::new(alloc);
     for p in ps {

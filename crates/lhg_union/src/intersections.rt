@@ -44,6 +44,7 @@ fn meet_each<N: Scalar>(alloc: Global, p: &Poly<N>, qs: &[Poly<N>]) -> Result<Ve
     ensures poly { IsPoly p.now.width p.now.lines }
     ensures polys { IfOk result (λ _. ArePolys qs.now) }
 {
+    // A call on p tells its invariant, for `poly`.
     let _ = p.rows();
     let mut out = Vec::new(alloc);
     for q in qs {
@@ -65,6 +66,7 @@ fn meet_one<N: Scalar>(
     ensures vars { OnOk result (AllVars p.now.width out.new.items) }
     ensures poly { IsPoly q.now.width q.now.lines }
 {
+    // A call on q tells its invariant, for `poly`.
     let _ = q.rows();
     let met = meet(alloc, p, q)?;
     push_some(out, met)

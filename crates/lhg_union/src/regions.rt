@@ -19,7 +19,7 @@ pub struct Region<N: Scalar> {
 }
 
 impl<N: Scalar> Region<N> {
-    /// Whether the point is in some piece of the location. It answers `Wide` only where whether a row of one of these pieces
+    /// Whether the point is in some piece of the location, which is one of the region's. It answers `Wide` only where whether a row of one of these pieces
     /// holds at the point is so answered.
     pub fn contains(&self, loc: u32, point: &Point<N>) -> Result<bool, Wide>
         requires there { loc < length self.now.pieces.items }
@@ -30,7 +30,7 @@ impl<N: Scalar> Region<N> {
         some_has(&self.pieces[loc as usize], point)
     }
 
-    /// Puts the piece at the end of the location's list. It answers `Pieces` exactly where that list would be past its limits.
+    /// Puts the piece at the end of the list of the location, which is one of the region's. It answers `Pieces` exactly where that list would be past its limits.
     /// After a refusal the region is as before, and the piece is dropped.
     pub fn add(&mut self, loc: u32, piece: Poly<N>) -> Result<(), Halt>
         requires { loc < length self.old.pieces.items }

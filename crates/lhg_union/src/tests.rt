@@ -19,6 +19,8 @@ const FROM_0: Line = (-1, 0, Kind::Weak, 0);
 
 const FROM_2: Line = (-1, 0, Kind::Weak, -2);
 
+const FROM_20: Line = (-1, 0, Kind::Weak, -20);
+
 const ABOVE_0: Line = (-1, 0, Kind::Strict, 0);
 
 const ABOVE_2: Line = (-1, 0, Kind::Strict, -2);
@@ -290,5 +292,76 @@ fn regions_grow_up_to_the_limit(rt: HostRuntime) -> Result<(), Fail> {
         assert_eq!(rt; added(rt.alloc(), piece, count)?, want);
     }
     assert_eq!(rt; (PIECE_LIMIT, LIST_ROW_LIMIT), (4096, 16384));
+    Ok(())
+}
+
+// The piece of the points at which x and y times this number are at most 0 in sum.
+fn steep(alloc: Global, y: Frac) -> Result<Poly<Frac>, Fail>
+    ensures { IfOk result (λ p. p.width ≡ 2) }
+{
+    let coefs = [Frac::from(1), y].to_vec(alloc)?;
+    let mut rows = Vec::new(alloc);
+    rows.push(Row {
+        coefs,
+        kind: Kind::Weak,
+        bound: Frac::from(0),
+    })?;
+    let made = make(alloc, 2, rows)?;
+    Ok(made.ok_or("none")?)
+}
+
+// One piece alone.
+fn alone(alloc: Global, piece: Poly<Frac>) -> Result<Vec<Poly<Frac>>, Fail>
+    requires { piece.width ≡ 2 }
+    ensures { IfOk result (λ v. AllVars 2 v.items) }
+{
+    let mut list = Vec::new(alloc);
+    list.push(piece)?;
+    Ok(list)
+}
+
+#[test]
+fn refuses_wide_numbers(rt: HostRuntime) -> Result<(), Fail> {
+    let ps = alone(rt.alloc(), steep(rt.alloc(), Frac::new(i128::MAX, 1)?)?)?;
+    let qs = alone(rt.alloc(), steep(rt.alloc(), Frac::from(-2))?)?;
+    assert_eq!(rt; minus(rt.alloc(), &ps, &qs).err(), Some(Halt::Wide));
+    assert_eq!(rt; meet_lists(rt.alloc(), &ps, &qs).err(), Some(Halt::Wide));
+    assert_eq!(rt; covered(rt.alloc(), &ps, &qs), Err(Halt::Wide));
+    Ok(())
+}
+
+#[test]
+fn leaves_what_is_apart(rt: HostRuntime) -> Result<(), Fail> {
+    let left = left(rt.alloc(), &[[FROM_0, BELOW_2]], &[[FROM_2, UP_TO_3]])?;
+    assert!(rt; are(&left, &[[FROM_0, BELOW_2]]));
+    Ok(())
+}
+
+// Five rows.
+const CORNERED: [Line; 5] = [
+    (-1, 0, Kind::Weak, 0),
+    (0, -1, Kind::Weak, 0),
+    (1, 0, Kind::Weak, 10),
+    (0, 1, Kind::Weak, 10),
+    (1, 1, Kind::Weak, 15),
+];
+
+fn cornered(alloc: Global, count: u32) -> Result<Vec<Poly<Frac>>, Halt>
+    ensures { IfOk result (λ v. AllVars 2 v.items) }
+{
+    let mut out = Vec::new(alloc);
+    for _ in 0..count {
+        push(alloc, &mut out, &CORNERED)?;
+    }
+    Ok(out)
+}
+
+#[test]
+fn counts_rows(rt: HostRuntime) -> Result<(), Fail> {
+    let far = pieces(rt.alloc(), &[[FROM_20, FROM_20]])?;
+    let full = cornered(rt.alloc(), 3276)?;
+    assert_eq!(rt; minus(rt.alloc(), &full, &far)?.len(), 3276);
+    let past = cornered(rt.alloc(), 3277)?;
+    assert_eq!(rt; minus(rt.alloc(), &past, &far).err(), Some(Halt::Pieces));
     Ok(())
 }

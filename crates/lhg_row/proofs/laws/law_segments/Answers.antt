@@ -1,5 +1,5 @@
 use Rattle.lhg_row.specs.SegmentLemmas.{value_along, along_start, along_end, along_twice}
-use Rattle.lhg_row.specs.Convex.{row_constant, row_turns, piece_convex, piece_between, piece_towards, piece_ends}
+use Rattle.lhg_row.specs.Convex.{row_constant, row_turns, piece_convex, piece_towards, piece_ends}
 use Rattle.lhg_row.proofs.laws.law_segments.Goals as goal
 
 pub returns-clause-places : goal.returns-clause-places
@@ -9,4 +9,4 @@ pub returns-clause-turns : goal.returns-clause-turns
 returns-clause-turns c = record { value = value_along; constant = row_constant; one_turn = row_turns }
 
 pub returns-clause-convex : goal.returns-clause-convex
-returns-clause-convex c = record { convex = piece_convex; between = piece_between; towards = piece_towards; ends = piece_ends }
+returns-clause-convex c = record { convex = piece_convex; towards = piece_towards; ends = piece_ends }
