@@ -295,9 +295,9 @@ fn regions_grow_up_to_the_limit(rt: HostRuntime) -> Result<(), Fail> {
     Ok(())
 }
 
-// The piece of the points at which x and y times this number are at most 0 in sum.
-fn steep(alloc: Global, y: Frac) -> Result<Poly<Frac>, Fail>
-    ensures { IfOk result (λ p. p.width ≡ 2) }
+// The piece of the points at which x and y times this number are at most 0 in sum, as a list.
+fn steep(alloc: Global, y: Frac) -> Result<Vec<Poly<Frac>>, Halt>
+    ensures { IfOk result (λ v. AllVars 2 v.items) }
 {
     let coefs = [Frac::from(1), y].to_vec(alloc)?;
     let mut rows = Vec::new(alloc);
@@ -306,27 +306,37 @@ fn steep(alloc: Global, y: Frac) -> Result<Poly<Frac>, Fail>
         kind: Kind::Weak,
         bound: Frac::from(0),
     })?;
-    let made = make(alloc, 2, rows)?;
-    Ok(made.ok_or("none")?)
+    let mut out = Vec::new(alloc);
+    if let Some(piece) = make(alloc, 2, rows)? {
+        out.push(piece)?;
+    }
+    Ok(out)
 }
 
-// One piece alone.
-fn alone(alloc: Global, piece: Poly<Frac>) -> Result<Vec<Poly<Frac>>, Fail>
-    requires { piece.width ≡ 2 }
-    ensures { IfOk result (λ v. AllVars 2 v.items) }
-{
-    let mut list = Vec::new(alloc);
-    list.push(piece)?;
-    Ok(list)
+fn steep_left(alloc: Global, y: Frac) -> Result<Vec<Poly<Frac>>, Halt> {
+    let ps = steep(alloc, y)?;
+    let qs = steep(alloc, Frac::from(-2))?;
+    minus(alloc, &ps, &qs)
+}
+
+fn steep_common(alloc: Global, y: Frac) -> Result<Vec<Poly<Frac>>, Halt> {
+    let ps = steep(alloc, y)?;
+    let qs = steep(alloc, Frac::from(-2))?;
+    meet_lists(alloc, &ps, &qs)
+}
+
+fn steep_covered(alloc: Global, y: Frac) -> Result<bool, Halt> {
+    let ps = steep(alloc, y)?;
+    let qs = steep(alloc, Frac::from(-2))?;
+    covered(alloc, &ps, &qs)
 }
 
 #[test]
 fn refuses_wide_numbers(rt: HostRuntime) -> Result<(), Fail> {
-    let ps = alone(rt.alloc(), steep(rt.alloc(), Frac::new(i128::MAX, 1)?)?)?;
-    let qs = alone(rt.alloc(), steep(rt.alloc(), Frac::from(-2))?)?;
-    assert_eq!(rt; minus(rt.alloc(), &ps, &qs).err(), Some(Halt::Wide));
-    assert_eq!(rt; meet_lists(rt.alloc(), &ps, &qs).err(), Some(Halt::Wide));
-    assert_eq!(rt; covered(rt.alloc(), &ps, &qs), Err(Halt::Wide));
+    let far = Frac::new(i128::MAX, 1)?;
+    assert_eq!(rt; steep_left(rt.alloc(), far).err(), Some(Halt::Wide));
+    assert_eq!(rt; steep_common(rt.alloc(), far).err(), Some(Halt::Wide));
+    assert_eq!(rt; steep_covered(rt.alloc(), far), Err(Halt::Wide));
     Ok(())
 }
 
@@ -346,22 +356,31 @@ const CORNERED: [Line; 5] = [
     (1, 1, Kind::Weak, 15),
 ];
 
+// So many pieces of five rows.
 fn cornered(alloc: Global, count: u32) -> Result<Vec<Poly<Frac>>, Halt>
     ensures { IfOk result (λ v. AllVars 2 v.items) }
 {
     let mut out = Vec::new(alloc);
-    for _ in 0..count {
+    for i in 0..count {
+        let _ = i;
         push(alloc, &mut out, &CORNERED)?;
     }
     Ok(out)
 }
 
+// What a piece that is apart from them leaves of so many pieces.
+fn left_of_cornered(alloc: Global, count: u32) -> Result<Vec<Poly<Frac>>, Halt> {
+    let ps = cornered(alloc, count)?;
+    let qs = pieces(alloc, &[[FROM_20, FROM_20]])?;
+    minus(alloc, &ps, &qs)
+}
+
 #[test]
 fn counts_rows(rt: HostRuntime) -> Result<(), Fail> {
-    let far = pieces(rt.alloc(), &[[FROM_20, FROM_20]])?;
-    let full = cornered(rt.alloc(), 3276)?;
-    assert_eq!(rt; minus(rt.alloc(), &full, &far)?.len(), 3276);
-    let past = cornered(rt.alloc(), 3277)?;
-    assert_eq!(rt; minus(rt.alloc(), &past, &far).err(), Some(Halt::Pieces));
+    assert_eq!(rt; left_of_cornered(rt.alloc(), 3276)?.len(), 3276);
+    assert_eq!(rt;
+        left_of_cornered(rt.alloc(), 3277).err(),
+        Some(Halt::Pieces)
+    );
     Ok(())
 }
