@@ -5,18 +5,17 @@ ghost use Rattle.lhg_union.specs.PolyLists.{AllVars};
 
 use lhg_num::{Frac, Halt};
 use lhg_poly::{Poly, make};
-use lhg_row::{Kind, Row};
+use lhg_row::{Kind, Row, whole_row};
 use lhg_union::minus;
 use std::alloc::Global;
 
 // The factor for variable k, and 0 for each other.
-fn coefs(alloc: Global, vars: usize, k: usize, factor: i64) -> Result<Vec<Frac>, Halt>
+fn coefs(alloc: Global, vars: usize, k: usize, factor: i64) -> Result<Vec<i64>, Halt>
     ensures { IfOk result (λ v. length v.items ≡ vars) }
 {
     let mut out = Vec::with_capacity(alloc, vars)?;
     for i in 0..vars {
-        let coef = if i == k { factor } else { 0 };
-        out.push(Frac::from(coef))?;
+        out.push(if i == k { factor } else { 0 })?;
     }
     Ok(out)
 }
@@ -25,11 +24,8 @@ fn coefs(alloc: Global, vars: usize, k: usize, factor: i64) -> Result<Vec<Frac>,
 fn side(alloc: Global, vars: usize, k: usize, factor: i64, bound: i64) -> Result<Row<Frac>, Halt>
     ensures { IfOk result (λ r. length r.coefs ≡ vars) }
 {
-    Ok(Row {
-        coefs: coefs(alloc, vars, k, factor)?,
-        kind: Kind::Weak,
-        bound: Frac::from(bound),
-    })
+    let coefs = coefs(alloc, vars, k, factor)?;
+    whole_row(alloc, &coefs, Kind::Weak, bound)
 }
 
 // Each variable is from low to high.

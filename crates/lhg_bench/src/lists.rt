@@ -3,7 +3,7 @@ ghost use Rattle.std.specs.Prelude.{◌≡◌, IfOk, length};
 ghost use Rattle.lhg_row.specs.Width.{AllWide};
 
 use lhg_num::{Frac, Halt};
-use lhg_row::{Kind, Row, System, trim};
+use lhg_row::{Kind, Row, System, trim, whole_row};
 use std::alloc::Global;
 
 // (n*n + 1)*x + n*y + z <= n where n is even, and the same with -z where it is odd.
@@ -12,12 +12,7 @@ fn row(alloc: Global, n: u8) -> Result<Row<Frac>, Halt>
 {
     let i = i64::from(n);
     let side = if n % 2 == 0 { 1 } else { -1 };
-    let coefs = [Frac::from(i * i + 1), Frac::from(i), Frac::from(side)].to_vec(alloc)?;
-    Ok(Row {
-        coefs,
-        kind: Kind::Weak,
-        bound: Frac::from(i),
-    })
+    whole_row(alloc, &[i * i + 1, i, side], Kind::Weak, i)
 }
 
 /// A list in which half of the rows bound the last variable from above and half from below, in turn. Nearly all combinations

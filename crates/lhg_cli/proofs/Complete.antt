@@ -6,14 +6,16 @@ use Rattle.lhg_plant.specs.SafeRegion.{safe_region}
 use Rattle.lhg_read.proofs.TextLawProofs.{text_laws}
 use Rattle.lhg_cli.specs.Answer.{IsAnswer, IsAnswerOf, IsTaken, IsWithin, synth_words}
 use Rattle.lhg_cli.specs.PlantAnswer.{IsTakenPlant}
-use Rattle.lhg_cli.specs.Refusal.{IsRefusal, IsSomePlantText}
+use Rattle.lhg_cli.specs.Refusal.{IsRefusal}
 use Rattle.lhg_cli.specs.declared.status.Status.{Status}
 use Rattle.lhg_cli.specs.declared.status.Status.TheVariants as status
+use Rattle.lhg_read.specs.PlantText.{IsSomePlantText}
+use Rattle.lhg_cli.proofs.WholeInput.{some_text}
 
 -- a plant that is taken is not refused as a text
 not_refused : (bytes text : List ℕ) → IsTaken bytes → ¬ IsRefusal bytes text
 not_refused bytes text t (inl long) = let l = long.long in let s = t.short in omega (arith, l, s)
-not_refused bytes text t (inr bad) = none_bad IsSomePlantText _ bad.number (t.plant, t.reads) bad.bad.first
+not_refused bytes text t (inr bad) = none_bad IsSomePlantText _ bad.number (some_text t.plant t.reads) bad.bad.first
 
 -- the plant of the answer is the one that is taken
 same_plant : (bytes text : List ℕ) (s : Status) (a : IsAnswerOf bytes s text) (t : IsTaken bytes) → t.plant ≡ a.plant

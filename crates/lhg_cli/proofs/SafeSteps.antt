@@ -9,7 +9,7 @@ use Rattle.lhg_row.specs.Row.{PlainRow}
 use Rattle.lhg_row.specs.Piece.{PlainPiece}
 use Rattle.lhg_row.specs.Pieces.{meet}
 use Rattle.lhg_row.specs.Lists.{listed, meet_each}
-use Rattle.lhg_row.specs.Members.{AllOf}
+use Rattle.lhg_math.specs.Tests.{AllOf}
 use Rattle.lhg_row.specs.Width.{AllWide}
 use Rattle.lhg_row.specs.System.{PlainSystem}
 use Rattle.lhg_row.proofs.Steps.{drop_cons}

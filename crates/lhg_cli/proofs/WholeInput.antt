@@ -1,5 +1,5 @@
 -- A refusal of a reader names the first line of the input that cannot stand in the text of a plant.
-use Rattle.std.proofs.Common.{◌≡◌, ◌+◌, ◌-◌, ℕ, List, [], ◌∷◌, ◌++◌, length, take, inl, inr, sym, ap, ◌∙◌, subst, arith, append_assoc, append-nil, length-append, take_at}
+use Rattle.std.proofs.Common.{◌≡◌, ◌+◌, ◌-◌, ℕ, List, [], ◌∷◌, ◌++◌, length, take, inl, sym, ap, ◌∙◌, subst, arith, append_assoc, append-nil, length-append, take_at}
 use Rattle.std.specs.Prelude.{slice_get}
 use Rattle.std.specs.List.{AllByRecursion}
 use Rattle.lhg_lex.specs.LineTokens.{IsBlankLine}
@@ -8,42 +8,31 @@ use Rattle.lhg_lex.specs.Reading.{Reading, left_of, IsAtEnd}
 use Rattle.lhg_lex.specs.declared.stops.ReadStop.{ReadStop}
 use Rattle.lhg_lex.specs.declared.stops.ReadStop.TheVariants.{Bad, Memory}
 use Rattle.lhg_plant.specs.Plant.{PlainPlant}
-use Rattle.lhg_read.specs.PlantText.{IsPlant, IsSomePlant, IsPlantText}
+use Rattle.lhg_read.specs.PlantText.{IsPlant, IsPlantText, IsSomePlantText}
 use Rattle.lhg_read.specs.Rest.{HasSurplus}
-use Rattle.lhg_read.specs.TokenText.{IsTextBy, ReadsText, HasCause, fault_at}
+use Rattle.lhg_read.specs.TokenText.{ReadsText, HasCause, fault_at}
 use Rattle.lhg_read.proofs.PlantEnds.{plant_text_laws}
 use Rattle.lhg_read.proofs.TokenTexts.{get_at}
-use Rattle.lhg_cli.specs.Refusal.{IsSomePlantText, IsBadAt, HasBadLine}
+use Rattle.lhg_cli.specs.Refusal.{IsBadAt, HasBadLine}
 
 -- the whole input is to be read
 abbrev pub start : List ℕ → Reading
 start bytes = record { bytes = bytes; read = 0 }
 
+-- a text of a plant is one of some plant
+pub some_text : {lines : List (List ℕ)} (p : PlainPlant) → IsPlantText lines p → IsSomePlantText lines
+some_text p t = record { tokens = t.tokens; are = t.are; is = (p, t.is) }
+
 -- ---- the plant is refused
 
--- two ways to say that lines are the text of some plant
-text_of : (lines : List (List ℕ)) → IsTextBy IsSomePlant lines → IsSomePlantText lines
-text_of lines t = (t.is.0, record { tokens = t.tokens; are = t.are; is = t.is.1 })
-
-text_by : (lines : List (List ℕ)) → IsSomePlantText lines → IsTextBy IsSomePlant lines
-text_by lines t = record { tokens = t.1.tokens; are = t.1.are; is = (t.0, t.1.is) }
-
-pub plant_refused : (bytes : List ℕ) (stop : ReadStop) → HasCause (IsTextBy IsSomePlant) (start bytes) stop → HasBadLine bytes stop
+pub plant_refused : (bytes : List ℕ) (stop : ReadStop) → HasCause IsSomePlantText (start bytes) stop → HasBadLine bytes stop
 plant_refused bytes Memory h = tt
 plant_refused bytes (Bad line column what) h =
-    let f = h.first in
     let n : h.n ≡ line = let k = h.counted in omega (arith, k) in
     subst (λ m. IsBadAt bytes m what) n
     (record {
       column = column;
-      first = record {
-        counted = f.counted;
-        before = (f.before.0, text_of _ f.before.1);
-        bad = elim f.bad [
-          | inl p ↦ inl (p.0, λ c. p.1 (c.0, text_by _ c.1))
-          | inr p ↦ inr (p.0, λ t. p.1 (text_by _ t))
-        ];
-      };
+      first = h.first;
       fault = h.fault;
     })
 
@@ -87,12 +76,12 @@ module _ (bytes : List ℕ) (p : PlainPlant) (new : Reading) (r : ReadsText (λ 
         column = column;
         first = record {
           counted = omega (arith, counted);
-          before = ([], (p, subst (λ ls. IsPlantText ls p) (sym (append-nil (take (line - 1) (lines_of bytes)) ∙ before)) (plant_text_laws.goes_on front blanks p r.text h.next.blank)));
+          before = ([], some_text p (subst (λ ls. IsPlantText ls p) (sym (append-nil (take (line - 1) (lines_of bytes)) ∙ before)) (plant_text_laws.goes_on front blanks p r.text h.next.blank)));
           bad = inl (
             omega (arith, place, long, counted),
             λ c.
-                let text = subst (λ ls. IsPlantText ls c.1.0) (ap (λ ls. ls ++ c.0) up_to ∙ append_assoc (front ++ blanks) (here ∷ []) c.0 ∙ append_assoc front blanks (here ∷ c.0)) c.1.1 in
-                h.not_blank (blank_behind blanks here c.0 (plant_text_laws.ends front (blanks ++ here ∷ c.0) p c.1.0 r.text text)),
+                let text = subst (λ ls. IsPlantText ls c.1.is.0) (ap (λ ls. ls ++ c.0) up_to ∙ append_assoc (front ++ blanks) (here ∷ []) c.0 ∙ append_assoc front blanks (here ∷ c.0)) (record { tokens = c.1.tokens; are = c.1.are; is = c.1.is.1 }) in
+                h.not_blank (blank_behind blanks here c.0 (plant_text_laws.ends front (blanks ++ here ∷ c.0) p c.1.is.0 r.text text)),
           );
         };
         fault = ap fault_at (ap (λ k. slice_get (lines_of bytes) k) place ∙ ap (λ ls. slice_get ls (length (front ++ blanks))) lines ∙ get_at (front ++ blanks) here rest) ∙ h.fault;

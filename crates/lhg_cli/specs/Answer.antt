@@ -1,13 +1,13 @@
 -- Which text stands for which status, by the words and the bytes of the input.
 use Rattle.std.specs.Prelude.{◌≡◌, ◌≢◌, ◌<◌, ◌≤◌, ℕ, List, [], ◌∷◌, length, false, codes, Option, IfSome, ◌⊎◌}
 use Rattle.std.specs.Io.KnownBytes.{IsAtEnd}
-use Rattle.lhg_lex.specs.Lines.{lines_of}
+use Rattle.lhg_lex.specs.Lines.{lines_of, most_bytes}
 use Rattle.lhg_plant.specs.Plant.{PlainPlant}
 use Rattle.lhg_plant.specs.SafeRegion.{safe_region}
 use Rattle.lhg_read.specs.PlantText.{IsPlantText}
 use Rattle.lhg_text.specs.PlantText.{line}
 use Rattle.lhg_cli.specs.PlantAnswer.{IsTakenPlant, IsPlantAnswer}
-use Rattle.lhg_cli.specs.Refusal.{most_bytes, IsRefusal}
+use Rattle.lhg_cli.specs.Refusal.{IsRefusal}
 use Rattle.lhg_cli.specs.declared.status.Status.{Status}
 use Rattle.lhg_cli.specs.declared.status.Status.TheVariants as status
 

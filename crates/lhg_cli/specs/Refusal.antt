@@ -1,23 +1,14 @@
 -- When is an input refused as a text, and what does the answer say?
 use Rattle.std.specs.Prelude.{◌≡◌, ◌<◌, ◌≤◌, ◌-◌, ◌⊎◌, ℕ, List, ◌++◌, length, codes, decimal, slice_get}
 use Rattle.lhg_lex.specs.FirstBad.{IsFirstBad}
-use Rattle.lhg_lex.specs.Lines.{lines_of}
+use Rattle.lhg_lex.specs.Lines.{lines_of, most_bytes}
 use Rattle.lhg_lex.specs.declared.stops.ReadStop.{ReadStop}
 use Rattle.lhg_lex.specs.declared.stops.ReadStop.TheVariants.{Bad, Memory}
 use Rattle.lhg_lex.specs.declared.stops.What.{What}
 use Rattle.lhg_lex.specs.declared.stops.What.TheVariants.{BadByte, LongNumber, ZeroDenominator, NotHere}
-use Rattle.lhg_plant.specs.Plant.{PlainPlant}
-use Rattle.lhg_read.specs.PlantText.{IsPlantText}
+use Rattle.lhg_read.specs.PlantText.{IsSomePlantText}
 use Rattle.lhg_read.specs.TokenText.{fault_at}
 use Rattle.lhg_text.specs.PlantText.{line}
-
--- how many bytes an input may have
-abbrev pub most_bytes : ℕ
-most_bytes = 1048576
-
--- the lines are the text of some plant
-abbrev pub IsSomePlantText : List (List ℕ) → Type 0
-IsSomePlantText lines = (a : PlainPlant) × IsPlantText lines a
 
 -- the name of an error
 abbrev pub what_text : What → List ℕ

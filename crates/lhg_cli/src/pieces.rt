@@ -1,7 +1,7 @@
 // Prints the pieces of a region, and reports.
 ghost use Rattle.std.specs.Prelude.{◌≡◌, ◌++◌, [], OnOk, IfOk, length, map, codes};
 ghost use Rattle.lhg_row.specs.Width.{AllWide};
-ghost use Rattle.lhg_row.specs.Members.{AllOf};
+ghost use Rattle.lhg_math.specs.Tests.{AllOf};
 ghost use Rattle.lhg_plant.specs.Views.{plain_plant, plain_location};
 ghost use Rattle.lhg_union.specs.PolyLists.{lines_of, AllVars};
 ghost use Rattle.lhg_union.specs.Regions.{plain_region};

@@ -6,7 +6,7 @@ ghost use Rattle.lhg_num.specs.Marked.{valued};
 ghost use Rattle.lhg_row.specs.Width.{AllWide};
 ghost use Rattle.lhg_row.specs.Lists.{listed};
 ghost use Rattle.lhg_row.specs.Pieces.{meet};
-ghost use Rattle.lhg_row.specs.Members.{AllOf};
+ghost use Rattle.lhg_math.specs.Tests.{AllOf};
 ghost use Rattle.lhg_plant.specs.Proper.{IsLocation};
 ghost use Rattle.lhg_plant.specs.SafeRegion as calculus;
 ghost use Rattle.lhg_plant.specs.Views.{plain_location, plain_plant};
@@ -15,8 +15,8 @@ ghost use Rattle.lhg_union.specs.Regions.{plain_region};
 
 use lhg_num::{Frac, Halt};
 use lhg_plant::{Location, Plant};
-use lhg_poly::{Poly, copy_rows, make};
-use lhg_row::Row;
+use lhg_poly::{Poly, make};
+use lhg_row::{Row, copy_rows};
 use lhg_union::{Region, push_some};
 use std::alloc::Global;
 

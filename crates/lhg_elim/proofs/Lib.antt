@@ -1,8 +1,8 @@
 pub mod Additive
 pub mod EntrySteps
-pub mod SideSteps
 pub mod NarrowSteps
 pub mod PairSteps
 pub mod BesideSteps
 pub mod EliminateSteps
 pub mod EmptySteps
+pub mod LastSteps

@@ -4,7 +4,7 @@ ghost use Rattle.lhg_num.specs.Halting.{IsHaltedByRows};
 ghost use Rattle.lhg_row.specs.HasValue.{IsEmptiness};
 ghost use Rattle.lhg_row.specs.Eliminate as calculus;
 
-use crate::elimination::eliminate;
+use crate::elimination::eliminate_last;
 use lhg_num::{Halt, Scalar};
 use lhg_row::System;
 use std::alloc::Global;
@@ -16,13 +16,6 @@ pub fn is_empty<N: Scalar>(alloc: Global, sys: &System<N>) -> Result<bool, Halt>
     ensures calculus { IsHaltedByRows result (calculus.is_empty N.arithmetic sys.now.width sys.now.lines) (λ b. b) }
     ensures points { IfOk result (λ b. IsEmptiness sys.now.width sys.now.lines b) }
 {
-    let rows = sys.rows();
-    if sys.vars() == 0 {
-        return Ok(!rows.is_empty());
-    }
-    let mut left = eliminate(alloc, sys, sys.vars() - 1)?;
-    while left.vars() > 0 {
-        left = eliminate(alloc, &left, left.vars() - 1)?;
-    }
+    let left = eliminate_last(alloc, sys, 0)?;
     Ok(!left.rows().is_empty())
 }

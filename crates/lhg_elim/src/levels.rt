@@ -5,10 +5,10 @@ ghost use Rattle.lhg_num.specs.Halting.{IsHaltedByMemory};
 ghost use Rattle.lhg_row.specs.Column.{level_at, drop_column};
 ghost use Rattle.lhg_row.specs.Width.{HasVariable};
 
-use crate::narrowing::copied;
+use crate::narrowing::narrowed;
 use crate::sides::is_level;
 use lhg_num::{Halt, Scalar};
-use lhg_row::Row;
+use lhg_row::{Row, copy_row};
 use std::alloc::Global;
 
 /// The rows that do not speak of variable k, over the others.
@@ -38,8 +38,8 @@ fn push_level<N: Scalar>(
     ensures { IsHaltedByMemory result (done (out.old.items ++ map (drop_column k) (filter (level_at k) (row.now ∷ [])))) (λ _. out.new.items) }
 {
     if is_level(row, k) {
-        let left = copied(alloc, row, k)?;
-        out.push(left)?;
+        let copy = copy_row(alloc, row)?;
+        out.push(narrowed(copy, k))?;
     }
     Ok(())
 }

@@ -20,6 +20,6 @@ mod sides;
 mod tests;
 
 pub use combining::comb;
-pub use elimination::eliminate;
+pub use elimination::{eliminate, eliminate_last};
 pub use emptiness::is_empty;
 pub use sides::{is_lower, is_upper};

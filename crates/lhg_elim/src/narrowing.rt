@@ -1,7 +1,7 @@
 // Rows over the other variables.
-ghost use Rattle.std.specs.Prelude.{◌≡◌, ◌<◌, length, map};
-ghost use Rattle.lhg_num.specs.Marked.{done, valued};
-ghost use Rattle.lhg_num.specs.Halting.{IsHaltedByMemory, IsHaltedByWide};
+ghost use Rattle.std.specs.Prelude.{◌≡◌, ◌<◌, length};
+ghost use Rattle.lhg_num.specs.Marked.{valued};
+ghost use Rattle.lhg_num.specs.Halting.{IsHaltedByWide};
 ghost use Rattle.lhg_row.specs.Column.{drop_column};
 ghost use Rattle.lhg_row.specs.Combine as calculus;
 
@@ -9,23 +9,6 @@ use crate::combining::comb;
 use lhg_num::{Halt, Scalar};
 use lhg_row::Row;
 use std::alloc::Global;
-
-/// A copy of the row over the variables other than k.
-pub(crate) fn copied<N: Scalar>(alloc: Global, row: &Row<N>, k: usize) -> Result<Row<N>, Halt>
-    requires { k < length row.now.coefs }
-    ensures { IsHaltedByMemory result (done (drop_column k row.now)) (λ r. r) }
-{
-    let mut coefs = Vec::with_capacity(alloc, row.coefs.len())?;
-    coefs.extend_from_slice(&row.coefs)?;
-    Ok(narrowed(
-        Row {
-            coefs,
-            kind: row.kind,
-            bound: row.bound,
-        },
-        k,
-    ))
-}
 
 /// The combination of two rows over the variables other than k.
 pub(crate) fn combined<N: Scalar>(
@@ -42,8 +25,8 @@ pub(crate) fn combined<N: Scalar>(
     Ok(narrowed(row, k))
 }
 
-// The row over the variables other than k.
-fn narrowed<N: Scalar>(row: Row<N>, k: usize) -> Row<N>
+/// The row over the variables other than k.
+pub(crate) fn narrowed<N: Scalar>(row: Row<N>, k: usize) -> Row<N>
     requires { k < length row.coefs }
     ensures { result ≡ drop_column k row }
 {

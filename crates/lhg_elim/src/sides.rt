@@ -21,11 +21,7 @@ pub fn is_upper<N: Scalar>(row: &Row<N>, k: usize) -> bool
     requires { k < length row.now.coefs }
     ensures { result ≡ column.upper_at k row.now }
 {
-    match sign_at(row, k) {
-        Ordering::Less => false,
-        Ordering::Equal => false,
-        Ordering::Greater => true,
-    }
+    sign_at(row, k).is_gt()
 }
 
 /// Whether the row bounds variable k from below.
@@ -33,11 +29,7 @@ pub fn is_lower<N: Scalar>(row: &Row<N>, k: usize) -> bool
     requires { k < length row.now.coefs }
     ensures { result ≡ column.lower_at k row.now }
 {
-    match sign_at(row, k) {
-        Ordering::Less => true,
-        Ordering::Equal => false,
-        Ordering::Greater => false,
-    }
+    sign_at(row, k).is_lt()
 }
 
 /// Whether two rows bound variable k from one side.

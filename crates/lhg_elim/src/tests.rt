@@ -2,9 +2,9 @@
 ghost use Rattle.std.specs.Prelude.{◌≡◌, IfOk, length};
 ghost use Rattle.lhg_row.specs.Width.{AllWide};
 
-use crate::{comb, eliminate, is_empty};
+use crate::{comb, eliminate, eliminate_last, is_empty};
 use lhg_num::{Frac, Halt};
-use lhg_row::{Kind, Row, System, trim};
+use lhg_row::{Kind, Row, System, trim, whole_row};
 use std::alloc::Global;
 use std::process::Abort;
 use std::test::Fail;
@@ -27,12 +27,7 @@ fn row(alloc: Global, line: &Line) -> Result<Row<Frac>, Halt>
     ensures { IfOk result (λ r. length r.coefs ≡ 2) }
 {
     let (x, y, kind, bound) = *line;
-    let coefs = [Frac::from(x), Frac::from(y)].to_vec(alloc)?;
-    Ok(Row {
-        coefs,
-        kind,
-        bound: Frac::from(bound),
-    })
+    whole_row(alloc, &[x, y], kind, bound)
 }
 
 fn system(alloc: Global, lines: &[Line]) -> Result<System<Frac>, Halt>
@@ -84,6 +79,21 @@ fn eliminates_y(rt: HostRuntime) -> Result<(), Fail> {
     }
     let long = fan(rt.alloc(), 92)?;
     assert_eq!(rt; eliminate(rt.alloc(), &long, 1).err(), Some(Halt::Rows));
+    Ok(())
+}
+
+#[test]
+fn eliminates_the_last(rt: HostRuntime) -> Result<(), Fail> {
+    let below = system(
+        rt.alloc(),
+        &[(1, -1, Kind::Weak, 0), (0, 1, Kind::Strict, 3)],
+    )?;
+    for (keep, rows) in [(2, 2), (1, 1), (0, 0)] {
+        assert!(rt; below.vars() == 2);
+        let left = eliminate_last(rt.alloc(), &below, keep)?;
+        assert_eq!(rt; left.vars(), keep);
+        assert_eq!(rt; left.rows().len(), rows);
+    }
     Ok(())
 }
 

@@ -25,8 +25,3 @@ front_fails p (b ∷ w) (suc k) h n =
     by_bool (p b)
     (λ e. let g : 1 + prefix_len p w < suc k = rw e at h in rw e (front_fails p w k (omega arith) (omega arith)))
     (λ e. rw e refl)
-
--- all of two lists pass where all of each do
-pub list_all-append : (p : ℕ → Bool) (a b : List ℕ) → list_all p (a ++ b) ≡ (list_all p a && list_all p b)
-list_all-append p [] b = refl
-list_all-append p (x ∷ a) b = by_bool (p x) (λ e. rw e (list_all-append p a b)) (λ e. rw e refl)

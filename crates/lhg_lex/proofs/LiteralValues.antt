@@ -12,9 +12,9 @@ use Rattle.lhg_lex.specs.Word.{is_digit}
 use Rattle.lhg_lex.specs.Digits.{all_digits, value_of}
 use Rattle.lhg_lex.specs.Literal.{whole_value, decimal_value, limit, decimal_digits}
 use Rattle.lhg_lex.specs.declared.stops.What.TheVariants.{ZeroDenominator}
-use Rattle.lhg_lex.proofs.Fronts.{list_all-append}
 use Rattle.lhg_lex.proofs.Values.{after-append, after_above, digit_value_is}
 use Rattle.lhg_lex.proofs.Bytes.{digit_from}
+use Rattle.std.proofs.lemmas.List.Folds.{list_all-append}
 
 -- a value, and none past the limit
 abbrev pub within_limit : ℕ → Option ℕ

@@ -8,7 +8,8 @@ use Rattle.std.proofs.Math.Bool.{and-false}
 use Rattle.lhg_lex.specs.Word.{is_digit}
 use Rattle.lhg_lex.specs.Digits.{all_digits, is_run}
 use Rattle.lhg_lex.specs.Literal.{before, behind, is_parted, is_number, is_mark}
-use Rattle.lhg_lex.proofs.Fronts.{suc_is, list_all-append}
+use Rattle.lhg_lex.proofs.Fronts.{suc_is}
+use Rattle.std.proofs.lemmas.List.Folds.{list_all-append}
 
 -- some digits are a run
 pub run_from_digits : (w : List ℕ) → 0 < length w → all_digits w ≡ true → is_run w ≡ true

@@ -12,3 +12,7 @@ without_empty_last (part ∷ next ∷ parts) = part ∷ without_empty_last (next
 -- a line ends before each line feed, and at the end of the text
 abbrev pub lines_of : List ℕ → List (List ℕ)
 lines_of bytes = without_empty_last (slice_split (λ b. b == 10) bytes)
+
+-- how many bytes a text may have
+abbrev pub most_bytes : ℕ
+most_bytes = 1048576

@@ -1,4 +1,7 @@
 // What follows from the definitions of lines and tokens.
+ghost use Rattle.std.specs.Prelude.{◌≡◌};
+ghost use Rattle.lhg_lex.specs.declared.cursor.TheConstants.{TEXT_LIMIT};
+ghost use Rattle.lhg_lex.specs.Lines.{most_bytes};
 ghost use Rattle.lhg_lex.specs.Example.{LineFacts, TokenFacts, NumberFacts};
 ghost use Rattle.lhg_lex.specs.Laws.{TokenLaws, LongestLaws, ContentLaws, LineLaws, TextLaws, NextLaws, FirstBadLaws};
 
@@ -18,6 +21,11 @@ pub fn law_line()
 pub fn law_text()
     ensures lines { TextLaws }
     ensures next { NextLaws }
+{}
+
+/// The constant is the limit of the definitions.
+pub fn law_limit()
+    ensures { TEXT_LIMIT ≡ most_bytes }
 {}
 
 /// The first line of a text that cannot stand there is one alone.

@@ -1,7 +1,7 @@
 -- Laws of signs, sizes and equality of numbers.
-use Rattle.std.specs.Prelude.{◌≡◌, true, false, not, cond, refl}
+use Rattle.std.specs.Prelude.{◌≡◌, true, false, not, cond, List, [], ◌∷◌, map, refl}
 use Rattle.std.specs.Bool.{Decides}
-use Rattle.std.specs.Ordering.{is_eq}
+use Rattle.std.specs.Ordering.{is_eq, is_lt, is_gt}
 use Rattle.std.specs.Cmp.{IsEquivalence}
 use Rattle.std.specs.Prelude.{◌<◌}
 use Rattle.std.specs.Int.RustNames.{unsigned_abs}
@@ -11,7 +11,7 @@ use Rattle.lhg_math.specs.Number.{Number, mul, neg, lt, nought, sign_of}
 use Rattle.lhg_math.specs.NumberRing.{mul-nought, mul-neg}
 use Rattle.lhg_math.specs.NumberOrder.{lt-mul, lt-nought_neg, neg-lt_nought, lt_irrefl, lt_antisymm, lt_asym}
 use Rattle.lhg_math.specs.Quotients.{abs_pos_of_lt, abs_pos_of_gt}
-use Rattle.lhg_math.specs.Signs.{size_of, is_nought, same_number}
+use Rattle.lhg_math.specs.Signs.{size_of, is_nought, same_number, lead}
 use Rattle.lhg_math.specs.Tests.{by_bool}
 
 -- a number equals itself
@@ -66,6 +66,20 @@ is_eq-sign_of x =
     (λ e. rw e refl)
     (λ e. by_bool (lt nought x) (λ f. rw (e, f) refl) (λ f. rw (e, f) refl))
 
+-- the order against 0 is less exactly for negative numbers
+pub is_lt-sign_of : (x : Number) → is_lt (sign_of x) ≡ lt x nought
+is_lt-sign_of x =
+    by_bool (lt x nought)
+    (λ e. rw e refl)
+    (λ e. by_bool (lt nought x) (λ f. rw (e, f) refl) (λ f. rw (e, f) refl))
+
+-- and greater exactly for positive ones
+pub is_gt-sign_of : (x : Number) → is_gt (sign_of x) ≡ lt nought x
+is_gt-sign_of x =
+    by_bool (lt x nought)
+    (λ e. rw (e, lt_asym x nought e) refl)
+    (λ e. by_bool (lt nought x) (λ f. rw (e, f) refl) (λ f. rw (e, f) refl))
+
 -- the size of a number that is not 0 is positive
 pub size_above : (x : Number) → is_nought x ≡ false → lt nought (size_of x) ≡ true
 size_above x h =
@@ -94,6 +108,13 @@ nought_lt-scaled k x h = ap (λ w. lt w (mul k x)) (sym (mul-nought k)) ∙ lt-m
 -- a positive factor keeps the test for 0
 pub is_nought-scaled : (k x : Number) → lt nought k ≡ true → is_nought (mul k x) ≡ is_nought x
 is_nought-scaled k x h = rw (lt-nought_scaled k x h, nought_lt-scaled k x h) refl
+
+-- a positive factor comes out of the leading number
+pub lead-scaled : (k : Number) (xs : List Number) → lt nought k ≡ true → lead (map (λ x. mul k x) xs) ≡ mul k (lead xs)
+lead-scaled k [] h = sym (mul-nought k)
+lead-scaled k (x ∷ xs) h =
+    ap (λ b. cond b (lead (map (λ y. mul k y) xs)) (mul k x)) (is_nought-scaled k x h)
+    ∙ by_bool (is_nought x) (λ e. rw e (lead-scaled k xs h)) (λ e. rw e refl)
 
 -- a positive factor comes out of a size
 pub size_of-scaled : (k x : Number) → lt nought k ≡ true → size_of (mul k x) ≡ mul k (size_of x)

@@ -7,7 +7,7 @@ use Rattle.lhg_math.specs.NumberOrder.{lt-mul, nought_unit, mul_positive}
 use Rattle.lhg_math.specs.Quotients.{mul-inverse, abs_pos_of_lt, quot-is}
 use Rattle.lhg_num.specs.Arithmetic.{IsMultiple, multiple_self}
 use Rattle.lhg_math.specs.Signs.{size_of, is_nought, lead}
-use Rattle.lhg_math.specs.SignLaws.{nought_is, size_above, is_nought-scaled, size_of-scaled}
+use Rattle.lhg_math.specs.SignLaws.{nought_is, size_above, is_nought-scaled, size_of-scaled, lead-scaled}
 use Rattle.lhg_math.specs.Tests.{by_bool}
 
 -- each entry divided by the size of the first entry that is not 0; a row of zeros stays
@@ -29,13 +29,6 @@ canon_multiple row =
     by_bool (is_nought (lead row))
     (λ e. rw e (multiple_self row))
     (λ e. record { factor = inverse (size_of (lead row)); positive = inverse_positive _ (size_above (lead row) e); entries = rw e (map-quot (size_of (lead row)) row) })
-
--- a positive factor comes out of the leading entry
-lead_scaled : (k : Number) (xs : List Number) → lt nought k ≡ true → lead (map (λ x. mul k x) xs) ≡ mul k (lead xs)
-lead_scaled k [] h = sym (mul-nought k)
-lead_scaled k (x ∷ xs) h =
-    ap (λ b. cond b (lead (map (λ y. mul k y) xs)) (mul k x)) (is_nought-scaled k x h)
-    ∙ by_bool (is_nought x) (λ e. rw e (lead_scaled k xs h)) (λ e. rw e refl)
 
 -- a factor leaves a row of zeros as it is
 all_nought : (k : Number) (xs : List Number) → is_nought (lead xs) ≡ true → map (λ x. mul k x) xs ≡ xs
@@ -70,8 +63,8 @@ canon_same old new m =
     let k = m.factor in
     let s = size_of (lead old) in
     let row = map (λ x. mul k x) old in
-    let size : size_of (lead row) ≡ mul k s = ap size_of (lead_scaled k old m.positive) ∙ size_of-scaled k (lead old) m.positive in
-    let zero : is_nought (lead row) ≡ is_nought (lead old) = ap is_nought (lead_scaled k old m.positive) ∙ is_nought-scaled k (lead old) m.positive in
+    let size : size_of (lead row) ≡ mul k s = ap size_of (lead-scaled k old m.positive) ∙ size_of-scaled k (lead old) m.positive in
+    let zero : is_nought (lead row) ≡ is_nought (lead old) = ap is_nought (lead-scaled k old m.positive) ∙ is_nought-scaled k (lead old) m.positive in
     ap canon_frac m.entries ∙ ap (λ b. cond b row (map (λ x. quot x (size_of (lead row))) row)) zero
     ∙ by_bool (is_nought (lead old))
     (λ e. rw e (all_nought k old e))

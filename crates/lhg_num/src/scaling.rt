@@ -9,7 +9,7 @@ use crate::fraction::Frac;
 use crate::number_type::Scalar;
 use crate::refusals::Wide;
 
-// The size of the first entry that is not 0.
+// The size of the first entry that is not 0. The rule of a type cannot call code over every type, since that code may call the rule.
 pub(crate) fn leading_size(row: &[Frac]) -> Option<Frac>
     ensures { result ≡ cond (is_nought (lead row.now)) None (Some (size_of (lead row.now))) }
 {

@@ -6,10 +6,9 @@ use Rattle.std.specs.declared.cmp.Ordering.{Ordering}
 use Rattle.std.proofs.lemmas.Option.{none-some, same_Some, slice_get-map, slice_get_read}
 use Rattle.lhg_math.specs.Number.{Number, lt, nought, sign_of}
 use Rattle.lhg_math.specs.NumberOrder.{lt_asym}
-use Rattle.lhg_math.specs.Tests.{by_bool}
+use Rattle.lhg_math.specs.Tests.{AllOf, by_bool}
 use Rattle.lhg_num.specs.Halting.{IsWideBy}
 use Rattle.lhg_num.specs.Marked.{Marked}
-use Rattle.lhg_row.specs.Members.{AllOf}
 use Rattle.lhg_plant.specs.LegalTruths.{told_of}
 
 -- the image of a member is at its place

@@ -6,7 +6,7 @@ use Rattle.lhg_row.specs.Row.{PlainPoint}
 use Rattle.lhg_row.specs.Piece.{PlainPiece, InPiece, InSome, in_some}
 use Rattle.lhg_row.specs.PieceLemmas.{in_piece_is, in_some_is}
 use Rattle.lhg_row.specs.MeetListsLaws.{meet_each-points}
-use Rattle.lhg_row.specs.Members.{AllOf}
+use Rattle.lhg_math.specs.Tests.{AllOf}
 use Rattle.lhg_plant.specs.Plant.{PlainLocation, PlainPlant}
 use Rattle.lhg_plant.specs.Proper.{IsLine, IsLocation, IsProper}
 use Rattle.lhg_plant.specs.Region.{InRegion}

@@ -1,7 +1,6 @@
 -- Which plants have a text?
-use Rattle.lhg_math.specs.Tests.{Every}
+use Rattle.lhg_math.specs.Tests.{AllOf, Every}
 use Rattle.lhg_row.specs.Constant.{varies}
-use Rattle.lhg_row.specs.Members.{AllOf}
 use Rattle.lhg_plant.specs.Plant.{PlainLocation, PlainPlant}
 use Rattle.lhg_plant.specs.Word.{IsVariable}
 

@@ -1,7 +1,7 @@
 -- Which plants may there be: names differ, places are in range, lengths agree, and the limits hold?
 use Rattle.std.specs.Prelude.{◌≡◌, ℕ, ◌+◌, ◌<◌, ◌≤◌, length, map, true}
 use Rattle.lhg_row.specs.Piece.{PlainPiece}
-use Rattle.lhg_row.specs.Members.{AllOf}
+use Rattle.lhg_math.specs.Tests.{AllOf}
 use Rattle.lhg_row.specs.Width.{AllWide}
 use Rattle.lhg_plant.specs.Differ.{all_differ}
 use Rattle.lhg_plant.specs.Limits.{most_variables, most_locations, most_switches, most_safe_lines, most_line_rows}

@@ -1,7 +1,7 @@
 -- That a plant is proper has one proof.
 use Rattle.std.specs.Prelude.{◌≡◌, ◌<◌, ◌+◌, ℕ, Bool, List, [], ◌∷◌, length}
 use Rattle.std.specs.Coded.{×_prop, Unit-prop, le_prop, Coded-set, coded_ℕ, coded_bool}
-use Rattle.lhg_row.specs.Members.{AllOf}
+use Rattle.lhg_math.specs.Tests.{AllOf}
 use Rattle.lhg_row.specs.Piece.{PlainPiece}
 use Rattle.lhg_row.specs.Width.{AllWide}
 use Rattle.lhg_plant.specs.Plant.{PlainLocation, PlainSwitch, PlainPlant}

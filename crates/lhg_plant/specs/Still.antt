@@ -3,7 +3,7 @@ use Rattle.std.specs.Prelude.{◌≡◌, ℕ, zero, suc, false, List, [], ◌∷
 use Rattle.lhg_math.specs.Number.{Number, neg, nought, unit}
 use Rattle.lhg_row.specs.Row.{PlainRow}
 use Rattle.lhg_row.specs.Piece.{PlainPiece}
-use Rattle.lhg_row.specs.Members.{AllOf}
+use Rattle.lhg_math.specs.Tests.{AllOf}
 use Rattle.lhg_plant.specs.Plant.{PlainPlant}
 
 -- over n variables the coefficient c at variable v, counted from 0, and 0 at all others

@@ -1,2 +1,1 @@
 pub mod MakeSteps
-pub mod ProjectSteps

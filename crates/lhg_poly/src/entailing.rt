@@ -5,11 +5,10 @@ ghost use Rattle.lhg_row.specs.Width.{AllWide};
 ghost use Rattle.lhg_row.specs.PieceFacts.{IsEntailment, IsInclusion};
 ghost use Rattle.lhg_row.specs.Pieces as calculus;
 
-use crate::copies::copy_rows;
 use crate::polys::Poly;
 use lhg_elim::is_empty;
 use lhg_num::{Halt, Scalar};
-use lhg_row::{Row, negate, trim};
+use lhg_row::{Row, copy_rows, negate, trim};
 use std::alloc::Global;
 
 /// Whether the row, over the variables of the piece, holds at each point of it.

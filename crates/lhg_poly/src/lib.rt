@@ -1,7 +1,6 @@
-// Pieces: tidy lists of rows with a point, and what is made of them.
+// Pieces: trimmed lists of rows with a point, of which no row follows from the others, and what is made of them.
 #![tactic(auto)]
 
-mod copies;
 mod entailing;
 pub mod laws;
 mod making;
@@ -11,7 +10,6 @@ mod projecting;
 #[cfg(test)]
 mod tests;
 
-pub use copies::{copy_row, copy_rows};
 pub use entailing::{entails, includes};
 pub use making::make;
 pub use meeting::{are_apart, closure, meet};

@@ -7,12 +7,11 @@ ghost use Rattle.lhg_row.specs.Width.{AllWide};
 ghost use Rattle.lhg_row.specs.PieceFacts.{IsMade};
 ghost use Rattle.lhg_row.specs.Pieces as calculus;
 
-use crate::copies::append_rows;
 use crate::entailing::rows_entail;
 use crate::polys::Poly;
 use lhg_elim::is_empty;
 use lhg_num::{Halt, Scalar};
-use lhg_row::{Row, trim};
+use lhg_row::{Row, append_rows, trim};
 use std::alloc::Global;
 
 /// The piece of the rows, each over `vars` variables, and none where they have no common point.
@@ -26,7 +25,7 @@ pub fn make<N: Scalar>(
     requires { AllWide vars rows.items }
     ensures calculus { IsHaltedByRows result (calculus.make N.arithmetic vars rows.items) (option_map (λ p. p.lines)) }
     ensures vars { IfOk result (λ o. IfSome o (λ p. p.width ≡ vars)) }
-    ensures points { IfOk result (λ o. IsMade vars rows.items (option_map (λ p. p.lines) o)) }
+    ensures points { IfOk result (λ o. IsMade N.arithmetic vars rows.items (option_map (λ p. p.lines) o)) }
 {
     let system = trim(alloc, vars, rows)?;
     let empty = is_empty(alloc, &system)?;

@@ -8,12 +8,11 @@ ghost use Rattle.lhg_row.specs.HasValue.{IsEmptiness};
 ghost use Rattle.lhg_row.specs.PieceFacts.{IsMeet, IsClosureOf};
 ghost use Rattle.lhg_row.specs.Pieces as calculus;
 
-use crate::copies::{append_rows, copy_rows};
 use crate::entailing::have_no_point;
 use crate::making::make;
 use crate::polys::Poly;
 use lhg_num::{Halt, Scalar};
-use lhg_row::{Row, relax};
+use lhg_row::{Row, append_rows, copy_rows, relax};
 use std::alloc::Global;
 
 /// The common points of two pieces over the same variables, and none where there is no common point.
@@ -23,7 +22,7 @@ pub fn meet<N: Scalar>(alloc: Global, p: &Poly<N>, q: &Poly<N>) -> Result<Option
     requires { p.now.width ≡ q.now.width }
     ensures calculus { IsHaltedByRows result (calculus.meet N.arithmetic p.now.width p.now.lines q.now.lines) (option_map (λ m. m.lines)) }
     ensures vars { IfOk result (λ o. IfSome o (λ m. m.width ≡ p.now.width)) }
-    ensures points { IfOk result (λ o. IsMeet p.now.width p.now.lines q.now.lines (option_map (λ m. m.lines) o)) }
+    ensures points { IfOk result (λ o. IsMeet N.arithmetic p.now.width p.now.lines q.now.lines (option_map (λ m. m.lines) o)) }
 {
     let rows = rows_of_both(alloc, p, q)?;
     make(alloc, p.vars(), rows)
@@ -47,7 +46,7 @@ pub fn are_apart<N: Scalar>(alloc: Global, p: &Poly<N>, q: &Poly<N>) -> Result<b
 pub fn closure<N: Scalar>(alloc: Global, p: &Poly<N>) -> Result<Poly<N>, Halt>
     ensures calculus { IsHaltedByRows result (calculus.closure N.arithmetic p.now.width p.now.lines) (λ c. Some c.lines) }
     ensures vars { IfOk result (λ c. c.width ≡ p.now.width) }
-    ensures points { IfOk result (λ c. IsClosureOf p.now.width p.now.lines c.lines) }
+    ensures points { IfOk result (λ c. IsClosureOf N.arithmetic p.now.width p.now.lines c.lines) }
 {
     let rows = relaxed_rows(alloc, p.rows())?;
     match make(alloc, p.vars(), rows)? {

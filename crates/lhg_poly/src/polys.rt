@@ -6,13 +6,12 @@ ghost use Rattle.lhg_row.specs.Piece.{in_piece};
 ghost use Rattle.lhg_row.specs.PieceFacts.{IsPoly};
 ghost use Rattle.lhg_row.specs.Truths as calculus;
 
-use crate::copies::copy_rows;
 use lhg_num::{Halt, Scalar, Wide};
-use lhg_row::{Point, Row, System, all_hold};
+use lhg_row::{Point, Row, System, all_hold, copy_rows};
 use std::alloc::Global;
 use std::marker::Model;
 
-/// A tidy list of rows with at least one point: rows each of which has a variable, or no row.
+/// A trimmed list of rows with at least one point, of which no row follows from the others.
 #[derive(Drop)]
 pub struct Poly<N: Scalar> {
     system: System<N>,
@@ -28,7 +27,7 @@ impl<N: Scalar> Model for Poly<N> {
 
     ghost view = { λ p. p.system };
 
-    ghost invariant = { λ p. IsPoly p.system.width p.system.lines };
+    ghost invariant = { λ p. IsPoly N.arithmetic p.system.width p.system.lines };
 }
 
 impl<N: Scalar> Poly<N> {
@@ -42,7 +41,7 @@ impl<N: Scalar> Poly<N> {
     /// The rows, in order.
     pub fn rows(&self) -> &[Row<N>]
         ensures rows { result.now ≡ self.now.lines }
-        ensures poly { IsPoly self.now.width self.now.lines }
+        ensures poly { IsPoly N.arithmetic self.now.width self.now.lines }
     {
         self.system.rows()
     }
@@ -50,7 +49,7 @@ impl<N: Scalar> Poly<N> {
     /// The rows as a system.
     pub fn system(&self) -> &System<N>
         ensures system { result.now ≡ self.now }
-        ensures poly { IsPoly self.now.width self.now.lines }
+        ensures poly { IsPoly N.arithmetic self.now.width self.now.lines }
     {
         &self.system
     }
@@ -58,7 +57,7 @@ impl<N: Scalar> Poly<N> {
     /// A copy. It halts for `Memory` alone.
     pub fn copy(&self, alloc: Global) -> Result<Poly<N>, Halt>
         ensures copy { IsHaltedByMemory result (done self.now) (λ p. p) }
-        ensures poly { IsPoly self.now.width self.now.lines }
+        ensures poly { IsPoly N.arithmetic self.now.width self.now.lines }
     {
         let rows = copy_rows(alloc, self.system.rows())?;
         Ok(Poly::of(self.system.vars(), rows))
@@ -75,7 +74,7 @@ impl<N: Scalar> Poly<N> {
 
     // The piece of rows that are one.
     pub(crate) fn of(vars: usize, rows: Vec<Row<N>>) -> Poly<N>
-        requires { IsPoly vars rows.items }
+        requires { IsPoly N.arithmetic vars rows.items }
         ensures { result ≡ record { width = vars; lines = rows.items } }
     {
         Poly {

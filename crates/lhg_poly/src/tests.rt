@@ -2,11 +2,9 @@
 ghost use Rattle.std.specs.Prelude.{◌≡◌, IfOk, IfSome, length};
 ghost use Rattle.lhg_row.specs.Width.{AllWide};
 
-use crate::{
-    Poly, are_apart, closure, copy_row, copy_rows, entails, includes, make, meet, project,
-};
+use crate::{Poly, are_apart, closure, entails, includes, make, meet, project};
 use lhg_num::{Frac, Halt};
-use lhg_row::{Kind, Point, Row, System, trim};
+use lhg_row::{Kind, Point, Row, System, trim, whole_row};
 use std::alloc::Global;
 use std::process::Abort;
 use std::test::Fail;
@@ -44,12 +42,7 @@ fn row(alloc: Global, line: &Line) -> Result<Row<Frac>, Halt>
     ensures { IfOk result (λ r. length r.coefs ≡ 2) }
 {
     let (x, y, kind, bound) = *line;
-    let coefs = [Frac::from(x), Frac::from(y)].to_vec(alloc)?;
-    Ok(Row {
-        coefs,
-        kind,
-        bound: Frac::from(bound),
-    })
+    whole_row(alloc, &[x, y], kind, bound)
 }
 
 fn rows(alloc: Global, lines: &[Line]) -> Result<Vec<Row<Frac>>, Halt>
@@ -127,22 +120,6 @@ fn copies_pieces(rt: HostRuntime) -> Result<(), Fail> {
     let kept = piece(rt.alloc(), &[FROM_0, UP_TO_3])?;
     let copy = kept.copy(rt.alloc())?;
     assert!(rt; are(copy.rows(), &[FROM_0, UP_TO_3]));
-    Ok(())
-}
-
-#[test]
-fn copies_lists_of_rows(rt: HostRuntime) -> Result<(), Fail> {
-    let kept = rows(rt.alloc(), &[FROM_0, UP_TO_3])?;
-    let copies = copy_rows(rt.alloc(), &kept)?;
-    assert!(rt; are(&copies, &[FROM_0, UP_TO_3]));
-    Ok(())
-}
-
-#[test]
-fn copies_rows(rt: HostRuntime) -> Result<(), Fail> {
-    let kept = row(rt.alloc(), &FROM_2)?;
-    let copy = copy_row(rt.alloc(), &kept)?;
-    assert!(rt; is(&copy, &FROM_2));
     Ok(())
 }
 

@@ -8,8 +8,7 @@ use Rattle.std.proofs.lemmas.Bool.{eqb-true, eqb-false}
 use Rattle.lhg_math.specs.Number.{Number, nought}
 use Rattle.lhg_math.specs.Signs.{is_nought}
 use Rattle.lhg_math.specs.SignLaws.{nought_is}
-use Rattle.lhg_math.specs.Tests.{by_bool}
-use Rattle.lhg_row.specs.Members.{AllOf}
+use Rattle.lhg_math.specs.Tests.{AllOf, by_bool}
 use Rattle.lhg_read.specs.Pair.{is_at, is_alone, factor_in}
 use Rattle.lhg_read.specs.Collect.{Collected, with_terms}
 use Rattle.lhg_read.specs.declared.terms.Term.{Term}

@@ -5,9 +5,7 @@ use Rattle.std.specs.List.{All}
 use Rattle.std.proofs.lemmas.List.Elements.{All-nil, All-cons, All-head, All-tail}
 use Rattle.std.proofs.lemmas.Option.{none-some, same_Some}
 use Rattle.lhg_math.specs.Number.{Number}
-use Rattle.lhg_math.specs.Tests.{by_bool}
-use Rattle.lhg_row.specs.Members.{AllOf}
-use Rattle.lhg_row.specs.MinusLaws.{all-append}
+use Rattle.lhg_math.specs.Tests.{AllOf, by_bool}
 use Rattle.lhg_lex.specs.PlainToken.{PlainToken, word, number, sign, two_signs}
 use Rattle.lhg_lex.specs.Word.{is_word}
 use Rattle.lhg_lex.specs.Literal.{is_number, number_of}
@@ -24,6 +22,7 @@ use Rattle.lhg_read.specs.Lexed.{IsLexed}
 use Rattle.lhg_read.specs.PlantText.{said_in}
 use Rattle.lhg_read.specs.TokenText.{token_line, token_lines}
 use Rattle.lhg_read.proofs.Answered.{both_joined}
+use Rattle.lhg_row.specs.Members.{all-append}
 
 -- a token says a word where its bytes are one
 no_word : (r : Result Number What) (w : List ℕ) → number_said r ≡ Ok (word w) → ⊥

@@ -10,12 +10,10 @@ use Rattle.std.proofs.lemmas.Bool.{and_parts}
 use Rattle.lhg_math.specs.Number.{Number, neg, nought, unit}
 use Rattle.lhg_math.specs.Signs.{is_nought, lead}
 use Rattle.lhg_math.specs.SignLaws.{is_nought-nought, is_nought-neg}
-use Rattle.lhg_math.specs.Tests.{Every, by_bool}
+use Rattle.lhg_math.specs.Tests.{AllOf, Every, by_bool}
 use Rattle.lhg_row.specs.Constant.{varies}
 use Rattle.lhg_row.specs.Row.{PlainRow}
 use Rattle.lhg_row.specs.Piece.{PlainPiece}
-use Rattle.lhg_row.specs.Members.{AllOf}
-use Rattle.lhg_row.specs.MinusLaws.{all-append}
 use Rattle.lhg_row.specs.Width.{AllWide}
 use Rattle.lhg_plant.specs.Proper.{IsLine}
 use Rattle.lhg_plant.specs.Still.{axis, still_from, still_rows}
@@ -37,6 +35,7 @@ use Rattle.lhg_read.proofs.Answered.{both_joined}
 use Rattle.lhg_read.proofs.Collecting.{IsSound}
 use Rattle.lhg_read.proofs.PairRows.{some_variable}
 use Rattle.lhg_read.proofs.PairSteps.{Of, sum_sound, all_opposite, all_joined, unit_sound}
+use Rattle.lhg_row.specs.Members.{all-append}
 
 -- n coefficients, of which one is not 0
 pub record IsFull (n : ℕ) (r : PlainRow) : Type 0 where

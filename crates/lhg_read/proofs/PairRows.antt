@@ -11,9 +11,8 @@ use Rattle.std.proofs.lemmas.Bool.Decides.{nat_tests}
 use Rattle.lhg_math.specs.Number.{Number, neg, nought}
 use Rattle.lhg_math.specs.Signs.{is_nought}
 use Rattle.lhg_math.specs.SignLaws.{is_nought-nought}
-use Rattle.lhg_math.specs.Tests.{by_bool}
+use Rattle.lhg_math.specs.Tests.{AllOf, by_bool}
 use Rattle.lhg_row.specs.Row.{PlainRow}
-use Rattle.lhg_row.specs.Members.{AllOf}
 use Rattle.lhg_row.specs.NothingLaws.{noughts-get_or}
 use Rattle.lhg_read.specs.Sum.{opposite}
 use Rattle.lhg_read.specs.Pair.{is_at, is_alone, factor_in, is_proper, row_of, rows_by, pair_rows, opposite_row}

@@ -8,8 +8,7 @@ use Rattle.lhg_math.specs.Number.{Number, unit}
 use Rattle.lhg_math.specs.NumberOrder.{nought_unit}
 use Rattle.lhg_math.specs.Signs.{is_nought}
 use Rattle.lhg_math.specs.SignLaws.{is_nought-positive, is_nought-neg}
-use Rattle.lhg_math.specs.Tests.{by_bool}
-use Rattle.lhg_row.specs.Members.{AllOf}
+use Rattle.lhg_math.specs.Tests.{AllOf, by_bool}
 use Rattle.lhg_row.specs.Piece.{PlainPiece}
 use Rattle.lhg_lex.specs.PlainToken.{PlainToken, word, number, sign, two_signs}
 use Rattle.lhg_read.specs.Cut.{Cut, cut}

@@ -3,7 +3,7 @@ use Rattle.std.proofs.Common.{◌≡◌, ℕ, List, [], ◌∷◌, ◌++◌, len
 use Rattle.std.specs.Option.{option_and_then, option_map}
 use Rattle.std.proofs.lemmas.List.{map-append}
 use Rattle.lhg_row.specs.Piece.{PlainPiece}
-use Rattle.lhg_row.specs.Members.{AllOf}
+use Rattle.lhg_math.specs.Tests.{AllOf}
 use Rattle.lhg_plant.specs.Plant.{PlainLocation, PlainSwitch}
 use Rattle.lhg_plant.specs.Still.{still_rows}
 use Rattle.lhg_read.specs.Term.{place_of}

@@ -8,10 +8,10 @@ use Rattle.std.proofs.lemmas.List.{length-map}
 use Rattle.std.proofs.lemmas.Option.{none-some, same_Some, cond_some, option_and_then_some}
 use Rattle.std.proofs.lemmas.Slice.Eq.{bytes_eq-Decides}
 use Rattle.std.proofs.lemmas.Bool.{and_parts}
-use Rattle.lhg_math.specs.Tests.{Every}
+use Rattle.lhg_math.specs.Tests.{AllOf, Every}
 use Rattle.lhg_row.specs.Constant.{varies}
 use Rattle.lhg_row.specs.Piece.{PlainPiece}
-use Rattle.lhg_row.specs.Members.{AllOf, all_split}
+use Rattle.lhg_row.specs.Members.{all_split}
 use Rattle.lhg_lex.specs.PlainToken.{PlainToken, word, number, sign, two_signs}
 use Rattle.lhg_lex.specs.LineTokens.{Spot}
 use Rattle.lhg_plant.specs.Differ.{all_differ}

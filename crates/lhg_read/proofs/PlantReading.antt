@@ -13,7 +13,7 @@ use Rattle.lhg_lex.specs.declared.tokens.Token.{Token}
 use Rattle.lhg_plant.specs.Printable.{IsPrintable}
 use Rattle.lhg_plant.specs.Proper.{IsProper}
 use Rattle.lhg_read.specs.Names.{vars_of}
-use Rattle.lhg_read.specs.PlantText.{said_in, IsHead, IsPlant, IsSomePlant}
+use Rattle.lhg_read.specs.PlantText.{said_in, IsHead, IsPlant, IsSomePlant, IsSomePlantText}
 use Rattle.lhg_read.specs.PlantSteps.{PlainDraft, empty_draft, taken, plant_with}
 use Rattle.lhg_read.specs.Begun.{IsBegun}
 use Rattle.lhg_read.specs.HeadTest.{head_test}
@@ -29,10 +29,6 @@ use Rattle.lhg_read.proofs.PlantProper.{plant_proper, plant_printable}
 use Rattle.lhg_read.proofs.PlantRefusals.{no_head, no_vars, no_line, none_at_start, none_at_head, none_yet}
 use Rattle.lhg_read.proofs.PlantContinues.{from_nothing, from_head, from_begun, begun_more, begun_few}
 use Rattle.lhg_read.proofs.TokenTexts.{Reads, EndsFull, NoneYet, CanGoOn, reads_nothing, reads_more, refused_line, faulty_line, missing_line}
-
--- a text of plants
-abbrev pub IsAnyPlant : List (List ℕ) → Type 0
-IsAnyPlant lines = IsTextBy IsSomePlant lines
 
 -- ---- no line comes
 
@@ -105,12 +101,12 @@ lexed_after s line new h e tokens f =
     (subst (λ ts. All (λ token. IsLexed (plain_of s.bytes token)) ts) (sym f) (line_lexed s line h))
 
 -- no line at the beginning
-pub nothing_comes : (s : Reading) (stop : ReadStop) → IsNoLine s stop → HasCause IsAnyPlant s stop
+pub nothing_comes : (s : Reading) (stop : ReadStop) → IsNoLine s stop → HasCause IsSomePlantText s stop
 nothing_comes s stop h = no_line_cause IsSomePlant s s [] (reads_nothing s) from_nothing none_at_start stop h
 
 -- another first line
 pub not_head : (s : Reading) (line : Line) (new : Reading) (h : IsTokenLine s line) → new ≡ record s { read = line.number } → (tokens : List Token) → tokens ≡ line.tokens.items → head_test new.bytes tokens ≡ false
-    → HasCause IsAnyPlant s (stop_at refusal.NotHere line.number)
+    → HasCause IsSomePlantText s (stop_at refusal.NotHere line.number)
 not_head s line new h e tokens f k =
     let test : head_test s.bytes line.tokens.items ≡ false = ap (λ b. head_test b line.tokens.items) (sym (same_bytes s new line.number e)) ∙ ap (head_test new.bytes) (sym f) ∙ k in
     refused_line IsSomePlant s s [] (reads_nothing s) from_nothing none_at_start line h (λ more p. no_head h.spots more p.0 (head_false s line h test) p.1)
@@ -123,12 +119,12 @@ after_head s line new h e tokens f k =
 
 module _ (old s : Reading) (a : AfterHead old s) where
   -- no line behind the head
-  pub head_alone : (stop : ReadStop) → IsNoLine s stop → HasCause IsAnyPlant old stop
+  pub head_alone : (stop : ReadStop) → IsNoLine s stop → HasCause IsSomePlantText old stop
   head_alone stop h = no_line_cause IsSomePlant old s (a.spots ∷ []) a.reads (from_head a.spots a.head) (none_at_head a.spots) stop h
 
   module _ (line : Line) (new : Reading) (h : IsTokenLine s line) (e : new ≡ record s { read = line.number }) (tokens : List Token) (f : tokens ≡ line.tokens.items) where
     -- another second line
-    pub not_vars : (r : Refusal) → IsRefused r (vars_of (map (plain_of new.bytes) tokens)) → HasCause IsAnyPlant old (stop_at r line.number)
+    pub not_vars : (r : Refusal) → IsRefused r (vars_of (map (plain_of new.bytes) tokens)) → HasCause IsSomePlantText old (stop_at r line.number)
     not_vars r k =
         refused_cause IsSomePlant old s (a.spots ∷ []) a.reads (from_head a.spots a.head) (none_at_head a.spots) line h r (vars_of (map (plain_of new.bytes) tokens))
         (λ bad more p. no_vars a.spots h.spots more p.0 (ap vars_of (sym (said_after s line new h e tokens f)) ∙ bad) p.1) k
@@ -155,12 +151,12 @@ module _ (old s : Reading) (vars : List (List ℕ)) (d : PlainDraft) (b : Betwee
   few_locs = begun_few b.0 vars d b.2
 
   -- no line before the end
-  pub no_end_comes : d.ended ≡ false → (stop : ReadStop) → IsNoLine s stop → HasCause IsAnyPlant old stop
+  pub no_end_comes : d.ended ≡ false → (stop : ReadStop) → IsNoLine s stop → HasCause IsSomePlantText old stop
   no_end_comes going stop h = no_line_cause IsSomePlant old s b.0 b.1 (from_begun b.0 vars d b.2 going) (none_yet b.0 vars d b.2 going) stop h
 
   module _ (going : d.ended ≡ false) (line : Line) (new : Reading) (h : IsTokenLine s line) (e : new ≡ record s { read = line.number }) (tokens : List Token) (f : tokens ≡ line.tokens.items) where
     -- a line that is not taken
-    pub not_taken : (r : Refusal) → IsRefused r (taken vars d (map (plain_of new.bytes) tokens)) → HasCause IsAnyPlant old (stop_at r line.number)
+    pub not_taken : (r : Refusal) → IsRefused r (taken vars d (map (plain_of new.bytes) tokens)) → HasCause IsSomePlantText old (stop_at r line.number)
     not_taken r k =
         refused_cause IsSomePlant old s b.0 b.1 (from_begun b.0 vars d b.2 going) (none_yet b.0 vars d b.2 going) line h r (taken vars d (map (plain_of new.bytes) tokens))
         (λ bad more p. no_line b.0 vars d b.2 h.spots more p.0 (ap (taken vars d) (sym (said_after s line new h e tokens f)) ∙ bad) p.1) k

@@ -6,7 +6,7 @@ use Rattle.std.specs.Option.{option_and_then, option_map}
 use Rattle.std.proofs.lemmas.Bool.{and_parts, not-true, lt-ltb}
 use Rattle.std.proofs.lemmas.List.{map-append}
 use Rattle.lhg_row.specs.Piece.{PlainPiece}
-use Rattle.lhg_row.specs.Members.{AllOf}
+use Rattle.lhg_math.specs.Tests.{AllOf}
 use Rattle.lhg_plant.specs.Plant.{PlainLocation, PlainSwitch}
 use Rattle.lhg_plant.specs.Differ.{is_among, differ_from, all_differ}
 use Rattle.lhg_read.specs.PlantLine.{BlockLine, inv, flow, safe, WrittenSwitch, PlantLine, loc, block, switch, end}

@@ -4,8 +4,7 @@ use Rattle.std.specs.List.{list_all, list_any, prefix_len}
 use Rattle.std.proofs.lemmas.Bool.{and_parts}
 use Rattle.std.proofs.lemmas.Bool.Decides.{nat_tests}
 use Rattle.lhg_math.specs.Number.{nought}
-use Rattle.lhg_math.specs.Tests.{by_bool}
-use Rattle.lhg_row.specs.Members.{AllOf}
+use Rattle.lhg_math.specs.Tests.{AllOf, by_bool}
 use Rattle.lhg_lex.specs.PlainToken.{PlainToken, word, number, sign}
 use Rattle.lhg_lex.specs.Word.{is_word, begins_word, continues_word}
 use Rattle.lhg_lex.specs.Token.{said}

@@ -4,7 +4,7 @@ use Rattle.std.specs.List.{flat_map}
 use Rattle.std.specs.Option.{option_and_then, option_map}
 use Rattle.lhg_math.specs.Number.{unit}
 use Rattle.lhg_row.specs.Piece.{PlainPiece}
-use Rattle.lhg_row.specs.Members.{AllOf}
+use Rattle.lhg_math.specs.Tests.{AllOf}
 use Rattle.lhg_lex.specs.PlainToken.{PlainToken, word, number}
 use Rattle.lhg_lex.specs.LineTokens.{Spot}
 use Rattle.lhg_plant.specs.Differ.{all_differ}
@@ -114,3 +114,7 @@ IsPlantText lines p = IsTextBy (λ tokens. IsPlant tokens p) lines
 -- the tokens of lines are some plant
 abbrev pub IsSomePlant : List (List Spot) → Type 0
 IsSomePlant tokens = (p : PlainPlant) × IsPlant tokens p
+
+-- the lines are the text of some plant
+abbrev pub IsSomePlantText : List (List ℕ) → Type 0
+IsSomePlantText lines = IsTextBy IsSomePlant lines

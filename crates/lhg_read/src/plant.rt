@@ -2,8 +2,8 @@
 ghost use Rattle.std.specs.Prelude.{◌≡◌, IfOk, IfErr, OnErr};
 ghost use Rattle.lhg_plant.specs.Printable.{IsPrintable};
 ghost use Rattle.lhg_plant.specs.Views.{plain_plant};
-ghost use Rattle.lhg_read.specs.PlantText.{IsPlant, IsSomePlant};
-ghost use Rattle.lhg_read.specs.TokenText.{IsTextBy, ReadsText, HasCause};
+ghost use Rattle.lhg_read.specs.PlantText.{IsPlant, IsSomePlantText};
+ghost use Rattle.lhg_read.specs.TokenText.{ReadsText, HasCause};
 
 use crate::draft::Draft;
 use crate::heads::is_head;
@@ -23,7 +23,7 @@ pub fn read_plant(alloc: Global, lines: &mut Lines) -> Result<Plant, ReadStop>
     // a plant that is read can be printed
     ensures printable { IfOk result (λ p. IsPrintable (plain_plant p)) }
     // no next lines are a plant, and this is the first line that cannot stand where it does
-    ensures err { IfErr result (HasCause (IsTextBy IsSomePlant) lines.old) }
+    ensures err { IfErr result (HasCause IsSomePlantText lines.old) }
     ensures bytes { OnErr result (lines.new.bytes ≡ lines.old.bytes) }
 {
     let line = needed_line(alloc, lines)?;

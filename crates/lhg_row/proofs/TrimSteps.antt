@@ -1,7 +1,7 @@
 -- Steps of trim: rows that stand alone, and its parts one after another.
-use Rattle.std.proofs.Common.{◌≡◌, ◌<◌, length, Bool, true, false, not, cond}
-use Rattle.std.specs.declared.cmp.Ordering.TheVariants.{Less, Equal, Greater}
-use Rattle.lhg_math.specs.Number.{Number, lt, nought, sign_of}
+use Rattle.std.proofs.Common.{◌≡◌, ◌<◌, length, true, refl, ap, ◌∙◌}
+use Rattle.std.specs.Ordering.{ordering_reverse}
+use Rattle.lhg_math.specs.Number.{Number, lt, nought, compare, sign_of}
 use Rattle.lhg_math.specs.NumberOrder.{lt_asym}
 use Rattle.lhg_math.specs.Tests.{by_bool}
 use Rattle.std.specs.Prelude.{nat_lt}
@@ -10,21 +10,22 @@ use Rattle.lhg_num.specs.Arithmetic.{Arithmetic}
 use Rattle.lhg_num.specs.Marked.{and_then, each, IsRest}
 use Rattle.lhg_num.specs.MarkedLaws.{IsPart, and_then-rest, and_then-part, rest_part, rest_rest}
 use Rattle.lhg_row.specs.Piece.{PlainPiece}
-use Rattle.lhg_row.specs.ValueLaws.{all_false}
+use Rattle.lhg_row.specs.Row.{PlainRow}
+use Rattle.lhg_row.specs.Constant.{stands_alone}
+use Rattle.lhg_row.specs.Values.{fits_order}
+use Rattle.lhg_row.specs.ValueLaws.{fits_order-compare}
 use Rattle.lhg_row.specs.Trim.{row_limit, counted, canon, settled, trim}
 
--- no row stands alone whose bound is below 0
-pub less_alone : (strict : Bool) (b : Number) → Less ≡ sign_of b → false ≡ cond strict (lt nought b) (not (lt b nought))
-less_alone strict b h =
+-- 0 against a bound is the bound against 0, turned
+order_turned : (b : Number) → ordering_reverse (sign_of b) ≡ compare nought b
+order_turned b =
     by_bool (lt b nought)
-    (λ e. rw (e, lt_asym b nought e) (all_false strict))
-    (λ e. let k : Less ≡ cond (lt nought b) Greater Equal = rw e at h in absurd (by_bool (lt nought b) (λ f. less_greater (rw f at k)) (λ f. less_equal (rw f at k))))
-  where
-    less_greater : Less ≡ Greater → ⊥
-    less_greater e = cc
+    (λ e. rw (e, lt_asym b nought e) refl)
+    (λ e. by_bool (lt nought b) (λ f. rw (e, f) refl) (λ f. rw (e, f) refl))
 
-    less_equal : Less ≡ Equal → ⊥
-    less_equal e = cc
+-- a row without a variable holds where 0 fits its bound
+pub fits-alone : (r : PlainRow) → fits_order r.strict (ordering_reverse (sign_of r.bound)) ≡ stands_alone r
+fits-alone r = ap (fits_order r.strict) (order_turned r.bound) ∙ fits_order-compare r.strict nought r.bound
 
 -- ---- the parts of trim
 module _ (a : Arithmetic) (rows : PlainPiece) where

@@ -1,12 +1,12 @@
 -- Which laws do the operations on rows and on lists of rows obey?
-use Rattle.std.specs.Prelude.{◌≡◌, ◌≢◌, ℕ, suc, ◌<◌, not, List, length, All, AllPairs}
+use Rattle.std.specs.Prelude.{◌≡◌, ◌≢◌, ℕ, suc, ◌<◌, not, List, length, remove, All, AllPairs}
 use Rattle.lhg_math.specs.Number.{Number}
 use Rattle.lhg_num.specs.Arithmetic.{Arithmetic, IsLawful}
 use Rattle.lhg_row.specs.Row.{PlainRow, PlainPoint, holds_at}
 use Rattle.lhg_row.specs.Piece.{PlainPiece, in_piece}
 use Rattle.lhg_row.specs.Values.{truth, shift}
 use Rattle.lhg_row.specs.Moves.{negated, moved, renamed, picked}
-use Rattle.lhg_row.specs.Trim.{trim}
+use Rattle.lhg_row.specs.Trim.{trim, IsTrimmed}
 use Rattle.lhg_row.specs.Width.{AllWide, IsTidy}
 use Rattle.lhg_row.specs.Column.{coef_at}
 use Rattle.lhg_row.specs.Combine.{comb}
@@ -24,11 +24,13 @@ pub record RowLaws : Type 0 where
   pub rename : (places : List ℕ) (n : ℕ) (r : PlainRow) (x : PlainPoint) → length places ≡ length r.coefs → All (λ p. p < n) places → AllPairs (λ p q. p ≢ q) places
       → length x ≡ n → holds_at (renamed places n r) x ≡ holds_at r (picked places x)
 
--- trim keeps the points and the width, and leaves a tidy list
+-- trim keeps the points and the width, and leaves a tidy list that it gives back; and a part of such a list is one
 pub record TrimLaws : Type 0 where
   pub points : (a : Arithmetic) (rows : PlainPiece) (x : PlainPoint) → IsLawful a → in_piece (trim a rows).value x ≡ in_piece rows x
   pub wide : (a : Arithmetic) (n : ℕ) (rows : PlainPiece) → IsLawful a → AllWide n rows → AllWide n (trim a rows).value
   pub tidy : (a : Arithmetic) (rows : PlainPiece) → IsTidy (trim a rows).value
+  pub trimmed : (a : Arithmetic) (rows : PlainPiece) → IsLawful a → IsTrimmed a (trim a rows).value
+  pub part : (a : Arithmetic) (rows : PlainPiece) (i : ℕ) → IsLawful a → i < length rows → IsTrimmed a rows → IsTrimmed a (remove rows i)
 
 -- the combination of two rows with opposite signs at a variable says what some value of the variable would say
 abbrev pub CombLaw : Type 0

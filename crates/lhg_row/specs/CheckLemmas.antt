@@ -11,7 +11,8 @@ use Rattle.lhg_row.specs.Row.{PlainRow, PlainPoint, value_at, holds_at, IsTight}
 use Rattle.lhg_row.specs.Piece.{PlainPiece, InPiece, InSome}
 use Rattle.lhg_row.specs.Segment.{along}
 use Rattle.lhg_row.specs.SegmentLemmas.{excess, excess_along, same_truth}
-use Rattle.lhg_row.specs.Members.{AllOf, all_split}
+use Rattle.lhg_row.specs.Members.{all_split}
+use Rattle.lhg_math.specs.Tests.{AllOf}
 use Rattle.lhg_row.specs.Decisions.{number_decided}
 use Rattle.lhg_row.specs.CheckPoint.{rows_of, IsTurn, SomeTurn, AreNeighbours, IsBetween}
 

@@ -5,10 +5,10 @@ use Rattle.lhg_math.specs.Number.{Number, lt, mid}
 use Rattle.lhg_math.specs.NumberOrder.{lt_irrefl, lt_antisymm, lt_trans}
 use Rattle.lhg_math.specs.Quotients.{lt-mid, mid-lt}
 use Rattle.lhg_math.specs.Places.{IsPlace}
-use Rattle.lhg_math.specs.Tests.{by_bool}
+use Rattle.lhg_math.specs.Tests.{AllOf, by_bool}
 use Rattle.lhg_row.specs.Row.{PlainRow, PlainPoint}
 use Rattle.lhg_row.specs.CheckPoint.{AreNeighbours, IsCheckPoint, IsBetween, IsEnclosed}
-use Rattle.lhg_row.specs.Members.{AllOf, SomeOf, some_left, some_right}
+use Rattle.lhg_row.specs.Members.{SomeOf, some_left, some_right}
 use Rattle.lhg_row.specs.Decisions.{clash}
 use Rattle.lhg_row.specs.CheckLemmas.{inside_place}
 use Rattle.lhg_row.specs.Enclose.{enclose}

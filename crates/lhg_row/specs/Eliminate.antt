@@ -95,8 +95,12 @@ eliminate a k rows =
     let rest = and_then (pair_at a k 0 rows) (λ p. and_then (without a k rows p) (trim a)) in
     cond (is_nothing rows) (done (map (drop_column k) rows)) rest
 
--- ---- is_empty
--- whether a tidy list over n variables has no point
+-- ---- all later variables
+-- the list without the last count of its variables, the last one eliminated first
+abbrev pub eliminate_last : Arithmetic → ℕ → ℕ → PlainPiece → Marked PlainPiece
+eliminate_last a kept zero rows = done rows
+eliminate_last a kept (suc count) rows = and_then (eliminate a (kept + count) rows) (eliminate_last a kept count)
+
+-- whether a tidy list over n variables has no point: without its variables it is 0 < 0
 abbrev pub is_empty : Arithmetic → ℕ → PlainPiece → Marked Bool
-is_empty a zero rows = done (is_nothing rows)
-is_empty a (suc n) rows = and_then (eliminate a n rows) (is_empty a n)
+is_empty a n rows = valued is_nothing (eliminate_last a 0 n rows)

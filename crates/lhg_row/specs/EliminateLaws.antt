@@ -1,5 +1,5 @@
 -- Why does the list without a variable hold exactly where some value of the variable satisfies the rows?
-use Rattle.std.specs.Prelude.{◌≡◌, ◌↔◌, ℕ, suc, ◌<◌, Bool, true, false, not, cond, ◌||◌, ◌&&◌, List, [], ◌∷◌, ◌++◌, map, length, filter, insert, flat_map, Option, Some, None}
+use Rattle.std.specs.Prelude.{◌≡◌, ◌↔◌, ℕ, suc, ◌<◌, true, false, not, cond, ◌||◌, ◌&&◌, List, [], ◌∷◌, ◌++◌, map, length, filter, insert, flat_map, Option, Some, None}
 use Rattle.std.proofs.Common.{refl, sym, ap, ◌∙◌, arith, subst}
 use Rattle.std.proofs.Math.Bool.{or_comm, and_assoc}
 use Rattle.std.proofs.lemmas.Bool.{and_parts, not-true}

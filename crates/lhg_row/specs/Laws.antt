@@ -10,7 +10,8 @@ use Rattle.lhg_row.specs.Flow.{IsFlow}
 use Rattle.lhg_row.specs.Speed.{IsFlowBySpeed}
 use Rattle.lhg_row.specs.Play.{PlainMove, IsPlay, last_point, EachEarlier}
 use Rattle.lhg_row.specs.CheckPoint.{IsCut, AreNeighbours, IsCheckPoint, IsBetween, IsEnclosed}
-use Rattle.lhg_row.specs.Members.{AllOf, SomeOf}
+use Rattle.lhg_row.specs.Members.{SomeOf}
+use Rattle.lhg_math.specs.Tests.{AllOf}
 
 -- truth is decidable, and the facts agree with their tests
 pub record TruthLaws : Type 0 where

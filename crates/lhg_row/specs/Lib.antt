@@ -27,6 +27,7 @@ pub mod Flow
 pub mod HasValue
 pub mod Join
 pub mod Kinds
+pub mod LastLaws
 pub mod Laws
 pub mod Lists
 pub mod MakeLaws
@@ -61,6 +62,7 @@ pub mod SpeedLemmas
 pub mod System
 pub mod Trim
 pub mod TrimLaws
+pub mod TrimmedLaws
 pub mod Truths
 pub mod ValueLaws
 pub mod Values

@@ -22,10 +22,10 @@ in_piece-both [] q x h k = k
 in_piece-both (r ∷ p) q x h k = (h.0, in_piece-both p q x h.1 k)
 
 -- meet is exact
-pub meet-exact : (a : Arithmetic) (n : ℕ) (p q : PlainPiece) → IsLawful a → AllWide n p → AllWide n q → IsMeet n p q (meet a n p q).value
+pub meet-exact : (a : Arithmetic) (n : ℕ) (p q : PlainPiece) → IsLawful a → AllWide n p → AllWide n q → IsMeet a n p q (meet a n p q).value
 meet-exact a n p q laws v w = go (meet a n p q).value (make-exact a n (p ++ q) laws (append-wide n p q v w))
   where
-    go : (o : Option PlainPiece) → IsMade n (p ++ q) o → IsMeet n p q o
+    go : (o : Option PlainPiece) → IsMade a n (p ++ q) o → IsMeet a n p q o
     go None h = λ x e i j. h x e (in_piece-both p q x i j)
     go (Some piece) h = record { points = λ x e. h.points x e ∙ in_piece-append p q x; poly = h.poly }
 
@@ -45,10 +45,10 @@ relaxed-in [] x h = tt
 relaxed-in (r ∷ p) x h = (h.0, relaxed-in p x h.1)
 
 -- closure is exact, and a piece with a point has one
-pub closure-exact : (a : Arithmetic) (n : ℕ) (p : PlainPiece) → IsLawful a → AllWide n p → HasPoint n p → IsClosure n p (closure a n p).value
+pub closure-exact : (a : Arithmetic) (n : ℕ) (p : PlainPiece) → IsLawful a → AllWide n p → HasPoint n p → IsClosure a n p (closure a n p).value
 closure-exact a n p laws w point = go (closure a n p).value (make-exact a n (map relaxed p) laws (relaxed-wide n p w))
   where
-    go : (o : Option PlainPiece) → IsMade n (map relaxed p) o → IsClosure n p o
+    go : (o : Option PlainPiece) → IsMade a n (map relaxed p) o → IsClosure a n p o
     go None h = h point.point point.wide (relaxed-in p point.point (piece_closure p point.point point.holds))
     go (Some piece) h = record {
       points = λ x e. (

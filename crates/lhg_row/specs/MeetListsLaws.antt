@@ -13,8 +13,9 @@ use Rattle.lhg_row.specs.Pieces.{meet}
 use Rattle.lhg_row.specs.Lists.{meet_each, meet_lists}
 use Rattle.lhg_row.specs.PieceFacts.{IsPoly, AllOver, AllPolys, IsIntersection}
 use Rattle.lhg_row.specs.MakeLaws.{make-exact}
-use Rattle.lhg_row.specs.MinusLaws.{all-append, in_some-append, in_option-made, in_some-listed}
+use Rattle.lhg_row.specs.MinusLaws.{in_some-append, in_option-made, in_some-listed}
 use Rattle.lhg_row.specs.CoveredLaws.{listed-polys}
+use Rattle.lhg_row.specs.Members.{all-append}
 
 module _ (a : Arithmetic) (n : ℕ) (laws : IsLawful a) where
   -- the meets of one piece with each of a list
@@ -24,14 +25,14 @@ module _ (a : Arithmetic) (n : ℕ) (laws : IsLawful a) where
       let o = (meet a n p q).value in
       let rest = (meet_each a n p qs).value in
       in_some-listed o rest x
-      ∙ ap (λ b. b || in_some rest x) (in_option-made n (p ++ q) o x e (make-exact a n (p ++ q) laws (append-wide n p q v w.0)) ∙ in_piece-append p q x)
+      ∙ ap (λ b. b || in_some rest x) (in_option-made a n (p ++ q) o x e (make-exact a n (p ++ q) laws (append-wide n p q v w.0)) ∙ in_piece-append p q x)
       ∙ ap (λ b. (in_piece p x && in_piece q x) || b) (meet_each-points p qs x e v w.1)
       ∙ sym (and-or_distrib_left (in_piece p x) (in_piece q x) (in_some qs x))
 
   -- have points
-  pub meet_each-polys : (p : PlainPiece) (qs : List PlainPiece) → AllWide n p → AllOver n qs → AllPolys n (meet_each a n p qs).value
+  pub meet_each-polys : (p : PlainPiece) (qs : List PlainPiece) → AllWide n p → AllOver n qs → AllPolys a n (meet_each a n p qs).value
   meet_each-polys p [] v w = tt
-  meet_each-polys p (q ∷ qs) v w = listed-polys n (p ++ q) (meet a n p q).value (meet_each a n p qs).value (make-exact a n (p ++ q) laws (append-wide n p q v w.0)) (meet_each-polys p qs v w.1)
+  meet_each-polys p (q ∷ qs) v w = listed-polys a n (p ++ q) (meet a n p q).value (meet_each a n p qs).value (make-exact a n (p ++ q) laws (append-wide n p q v w.0)) (meet_each-polys p qs v w.1)
 
   all_met : (ps qs : List PlainPiece) (x : PlainPoint) → length x ≡ n → AllOver n ps → AllOver n qs
       → in_some (each_joined (λ p. meet_each a n p qs) ps).value x ≡ (in_some ps x && in_some qs x)
@@ -43,10 +44,10 @@ module _ (a : Arithmetic) (n : ℕ) (laws : IsLawful a) where
       ∙ ap (λ b. (in_piece p x && in_some qs x) || b) (all_met ps qs x e v.1 w)
       ∙ sym (and-or_distrib_right (in_piece p x) (in_some ps x) (in_some qs x))
 
-  all_polys : (ps qs : List PlainPiece) → AllOver n ps → AllOver n qs → AllPolys n (each_joined (λ p. meet_each a n p qs) ps).value
+  all_polys : (ps qs : List PlainPiece) → AllOver n ps → AllOver n qs → AllPolys a n (each_joined (λ p. meet_each a n p qs) ps).value
   all_polys [] qs v w = tt
   all_polys (p ∷ ps) qs v w =
-      all-append (IsPoly n) (meet_each a n p qs).value (each_joined (λ s. meet_each a n s qs) ps).value (meet_each-polys p qs v.0 w) (all_polys ps qs v.1 w)
+      all-append (IsPoly a n) (meet_each a n p qs).value (each_joined (λ s. meet_each a n s qs) ps).value (meet_each-polys p qs v.0 w) (all_polys ps qs v.1 w)
 
 -- meet_lists is exact
 pub meet_lists-exact : (a : Arithmetic) (n : ℕ) (ps qs : List PlainPiece) → IsLawful a → AllOver n ps → AllOver n qs → IsIntersection n ps qs (meet_lists a n ps qs).value
@@ -54,6 +55,6 @@ unfolding meet_lists
 meet_lists-exact a n ps qs laws v w = λ x e. all_met a n laws ps qs x e v w
 
 -- its pieces have points
-pub meet_lists-polys : (a : Arithmetic) (n : ℕ) (ps qs : List PlainPiece) → IsLawful a → AllOver n ps → AllOver n qs → AllPolys n (meet_lists a n ps qs).value
+pub meet_lists-polys : (a : Arithmetic) (n : ℕ) (ps qs : List PlainPiece) → IsLawful a → AllOver n ps → AllOver n qs → AllPolys a n (meet_lists a n ps qs).value
 unfolding meet_lists
 meet_lists-polys a n ps qs laws v w = all_polys a n laws ps qs v w

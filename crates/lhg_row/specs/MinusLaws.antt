@@ -8,7 +8,6 @@ use Rattle.lhg_num.specs.Marked.{walk}
 use Rattle.lhg_row.specs.Row.{PlainPoint, holds_at}
 use Rattle.lhg_row.specs.Piece.{PlainPiece, in_piece, in_some}
 use Rattle.lhg_row.specs.Moves.{negated}
-use Rattle.lhg_row.specs.Members.{AllOf}
 use Rattle.lhg_row.specs.Width.{AllWide}
 use Rattle.lhg_row.specs.Eliminate.{each_joined}
 use Rattle.lhg_row.specs.Pieces.{make, meet}
@@ -17,12 +16,7 @@ use Rattle.lhg_row.specs.PieceFacts.{AllOver, IsMade, IsMeet, IsDifference}
 use Rattle.lhg_row.specs.EntailLaws.{in_piece-more, in_piece-negated, more-wide, negated-wide}
 use Rattle.lhg_row.specs.MakeLaws.{make-exact}
 use Rattle.lhg_row.specs.MeetLaws.{meet-exact}
-
--- ---- lists of pieces
--- what holds of all members of two lists holds of all members of both together
-pub all-append : {A : Type 0} (P : A → Type 0) (xs ys : List A) → AllOf P xs → AllOf P ys → AllOf P (xs ++ ys)
-all-append P [] ys h k = k
-all-append P (x ∷ xs) ys h k = (h.0, all-append P xs ys h.1 k)
+use Rattle.lhg_row.specs.Members.{all-append}
 
 -- two lists of pieces together hold what either does
 pub in_some-append : (ps qs : List PlainPiece) (x : PlainPoint) → in_some (ps ++ qs) x ≡ (in_some ps x || in_some qs x)
@@ -43,18 +37,18 @@ not_in : (p : PlainPiece) (x : PlainPoint) → (in_piece p x ≡ true → ⊥) �
 not_in p x f = by_bool (in_piece p x) (λ e. absurd (f e)) (λ e. e)
 
 -- what is made of rows holds what the rows do
-pub in_option-made : (n : ℕ) (rows : PlainPiece) (o : Option PlainPiece) (x : PlainPoint) → length x ≡ n → IsMade n rows o → in_option o x ≡ in_piece rows x
-in_option-made n rows None x e h = sym (not_in rows x (λ k. h x e (every_from_all (λ r. holds_at r x) rows k)))
-in_option-made n rows (Some p) x e h = h.points x e
+pub in_option-made : (a : Arithmetic) (n : ℕ) (rows : PlainPiece) (o : Option PlainPiece) (x : PlainPoint) → length x ≡ n → IsMade a n rows o → in_option o x ≡ in_piece rows x
+in_option-made a n rows None x e h = sym (not_in rows x (λ k. h x e (every_from_all (λ r. holds_at r x) rows k)))
+in_option-made a n rows (Some p) x e h = h.points x e
 
 -- the piece that is there is over n variables
 abbrev OptionWide : ℕ → Option PlainPiece → Type 0
 OptionWide n None = Unit {0}
 OptionWide n (Some p) = AllWide n p
 
-made-wide : (n : ℕ) (rows : PlainPiece) (o : Option PlainPiece) → IsMade n rows o → OptionWide n o
-made-wide n rows None h = tt
-made-wide n rows (Some p) h = h.poly.wide
+made-wide : (a : Arithmetic) (n : ℕ) (rows : PlainPiece) (o : Option PlainPiece) → IsMade a n rows o → OptionWide n o
+made-wide a n rows None h = tt
+made-wide a n rows (Some p) h = h.poly.wide
 
 listed-wide : (n : ℕ) (o : Option PlainPiece) (ps : List PlainPiece) → OptionWide n o → AllOver n ps → AllOver n (listed o ps)
 listed-wide n None ps h k = k
@@ -78,7 +72,7 @@ module _ (a : Arithmetic) (n : ℕ) (laws : IsLawful a) where
   cut_off-wide p (r ∷ q) v w =
       let rows = p ++ negated r ∷ [] in
       let o = (make a n rows).value in
-      listed-wide n o (cut_off a n (p ++ r ∷ []) q).value (made-wide n rows o (make-exact a n rows laws (negated-wide n p r v w.0))) (cut_off-wide (p ++ r ∷ []) q (more-wide n p r v w.0) w.1)
+      listed-wide n o (cut_off a n (p ++ r ∷ []) q).value (made-wide a n rows o (make-exact a n rows laws (negated-wide n p r v w.0))) (cut_off-wide (p ++ r ∷ []) q (more-wide n p r v w.0) w.1)
 
   -- what is cut off has the points of p and not of q
   cut_off-points : (p q : PlainPiece) (x : PlainPoint) → length x ≡ n → AllWide n p → AllWide n q → in_some (cut_off a n p q).value x ≡ (in_piece p x && not (in_piece q x))
@@ -88,7 +82,7 @@ module _ (a : Arithmetic) (n : ℕ) (laws : IsLawful a) where
       let o = (make a n rows).value in
       let rest = (cut_off a n (p ++ r ∷ []) q).value in
       in_some-listed o rest x
-      ∙ ap (λ b. b || in_some rest x) (in_option-made n rows o x e (make-exact a n rows laws (negated-wide n p r v w.0)) ∙ in_piece-negated p r x)
+      ∙ ap (λ b. b || in_some rest x) (in_option-made a n rows o x e (make-exact a n rows laws (negated-wide n p r v w.0)) ∙ in_piece-negated p r x)
       ∙ ap (λ b. (in_piece p x && not (holds_at r x)) || b) (cut_off-points (p ++ r ∷ []) q x e (more-wide n p r v w.0) w.1 ∙ ap (λ b. b && not (in_piece q x)) (in_piece-more p r x))
       ∙ cut_split (in_piece p x) (holds_at r x) (in_piece q x)
 
@@ -98,7 +92,7 @@ module _ (a : Arithmetic) (n : ℕ) (laws : IsLawful a) where
       (λ e. by_bool (in_piece q x) (λ g. absurd (f e g)) (λ g. rw (e, g) refl))
       (λ e. rw e refl)
 
-  apart_or_cut-points : (p q : PlainPiece) (o : Option PlainPiece) (x : PlainPoint) → length x ≡ n → AllWide n p → AllWide n q → IsMeet n p q o
+  apart_or_cut-points : (p q : PlainPiece) (o : Option PlainPiece) (x : PlainPoint) → length x ≡ n → AllWide n p → AllWide n q → IsMeet a n p q o
       → in_some (apart_or_cut a n p q o).value x ≡ (in_piece p x && not (in_piece q x))
   apart_or_cut-points p q (Some m) x e v w h = cut_off-points p q x e v w
   apart_or_cut-points p q None x e v w h =

@@ -27,7 +27,7 @@ settled-never a m =
     rw (noughts-lead m, lt_irrefl nought) is
 
 -- trim leaves 0 < 0 as it is
-trim-never : (a : Arithmetic) (m : ℕ) → trim a (never m ∷ []) ≡ done (never m ∷ [])
+pub trim-never : (a : Arithmetic) (m : ℕ) → trim a (never m ∷ []) ≡ done (never m ∷ [])
 unfolding trim
 trim-never a m =
     let rest = λ (c : Marked PlainRow) (s : PlainPiece → Marked PlainPiece). and_then (counted (never m ∷ [])) (λ rs. and_then (and_then c (λ y. valued (λ ys. y ∷ ys) (done []))) s) in

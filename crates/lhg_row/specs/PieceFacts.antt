@@ -1,29 +1,13 @@
 -- What do the operations on pieces say of points?
-use Rattle.std.specs.Prelude.{◌≡◌, ◌↔◌, ℕ, Bool, true, false, not, ◌&&◌, List, ◌++◌, length, Option, Some, None}
+use Rattle.std.specs.Prelude.{◌≡◌, ◌↔◌, ℕ, ◌<◌, Bool, true, false, not, ◌&&◌, List, length, remove, Option, Some, None}
+use Rattle.lhg_num.specs.Arithmetic.{Arithmetic}
 use Rattle.lhg_row.specs.Row.{PlainRow, PlainPoint, Holds}
 use Rattle.lhg_row.specs.Piece.{PlainPiece, InPiece, in_piece, InClosure, in_some}
-use Rattle.lhg_row.specs.Members.{AllOf}
-use Rattle.lhg_row.specs.Width.{AllWide, IsTidy}
-use Rattle.lhg_row.specs.HasValue.{HasPoint}
-
--- tidy rows over n variables, with a point
-pub record IsPoly (n : ℕ) (piece : PlainPiece) : Type 0 where
-  pub wide : AllWide n piece
-  pub tidy : IsTidy piece
-  pub point : HasPoint n piece
-
--- the point is over n variables and lies in the piece
-pub record IsPointOf (n : ℕ) (piece : PlainPiece) (x : PlainPoint) : Type 0 where
-  pub wide : length x ≡ n
-  pub inside : InPiece piece x
-
--- each piece of the list is over n variables
-abbrev pub AllOver : ℕ → List PlainPiece → Type 0
-AllOver n ps = AllOf (AllWide n) ps
-
--- and has a point
-abbrev pub AllPolys : ℕ → List PlainPiece → Type 0
-AllPolys n ps = AllOf (IsPoly n) ps
+use Rattle.lhg_math.specs.Tests.{AllOf}
+use Rattle.lhg_row.specs.Trim.{IsTrimmed}
+use Rattle.lhg_row.specs.Width.{AllWide}
+use Rattle.lhg_row.specs.Eliminate.{row_at}
+use Rattle.lhg_row.specs.HasValue.{HasPoint, Completes}
 
 -- ---- entails
 -- some point over n variables at which the rows hold and the row r does not
@@ -38,38 +22,63 @@ abbrev pub IsEntailment : ℕ → PlainPiece → PlainRow → Bool → Type 0
 IsEntailment n rows r true = (x : PlainPoint) → length x ≡ n → InPiece rows x → Holds r x
 IsEntailment n rows r false = HasCounter n rows r
 
+-- no row holds at all points of the others
+abbrev pub IsIrredundant : ℕ → PlainPiece → Type 0
+IsIrredundant n piece = (i : ℕ) → i < length piece → HasCounter n (remove piece i) (row_at piece i)
+
+-- ---- pieces
+-- trimmed rows over n variables, with a point, of which none follows from the others
+pub record IsPoly (a : Arithmetic) (n : ℕ) (piece : PlainPiece) : Type 0 where
+  pub wide : AllWide n piece
+  pub trimmed : IsTrimmed a piece
+  pub point : HasPoint n piece
+  pub irredundant : IsIrredundant n piece
+
+-- the point is over n variables and lies in the piece
+pub record IsPointOf (n : ℕ) (piece : PlainPiece) (x : PlainPoint) : Type 0 where
+  pub wide : length x ≡ n
+  pub inside : InPiece piece x
+
+-- each piece of the list is over n variables
+abbrev pub AllOver : ℕ → List PlainPiece → Type 0
+AllOver n ps = AllOf (AllWide n) ps
+
+-- and has a point
+abbrev pub AllPolys : Arithmetic → ℕ → List PlainPiece → Type 0
+AllPolys a n ps = AllOf (IsPoly a n) ps
+
 -- ---- make
 -- a piece with the points of the rows
-pub record IsPieceOf (n : ℕ) (rows piece : PlainPiece) : Type 0 where
+pub record IsPieceOf (a : Arithmetic) (n : ℕ) (rows piece : PlainPiece) : Type 0 where
   pub points : (x : PlainPoint) → length x ≡ n → in_piece piece x ≡ in_piece rows x
-  pub poly : IsPoly n piece
+  pub poly : IsPoly a n piece
 
 -- none says that the rows have no point, and a piece that it has their points
-abbrev pub IsMade : ℕ → PlainPiece → Option PlainPiece → Type 0
-IsMade n rows None = (x : PlainPoint) → length x ≡ n → ¬ InPiece rows x
-IsMade n rows (Some piece) = IsPieceOf n rows piece
+abbrev pub IsMade : Arithmetic → ℕ → PlainPiece → Option PlainPiece → Type 0
+IsMade a n rows None = (x : PlainPoint) → length x ≡ n → ¬ InPiece rows x
+IsMade a n rows (Some piece) = IsPieceOf a n rows piece
 
 -- ---- meet
 -- a piece with the common points of two
-pub record IsMeetOf (n : ℕ) (p q piece : PlainPiece) : Type 0 where
+pub record IsMeetOf (a : Arithmetic) (n : ℕ) (p q piece : PlainPiece) : Type 0 where
   pub points : (x : PlainPoint) → length x ≡ n → in_piece piece x ≡ (in_piece p x && in_piece q x)
-  pub poly : IsPoly n piece
+  pub poly : IsPoly a n piece
 
 -- none says that two pieces have no common point, and a piece that it has their common points
-abbrev pub IsMeet : ℕ → PlainPiece → PlainPiece → Option PlainPiece → Type 0
-IsMeet n p q None = (x : PlainPoint) → length x ≡ n → InPiece p x → ¬ InPiece q x
-IsMeet n p q (Some piece) = IsMeetOf n p q piece
+abbrev pub IsMeet : Arithmetic → ℕ → PlainPiece → PlainPiece → Option PlainPiece → Type 0
+IsMeet a n p q None = (x : PlainPoint) → length x ≡ n → InPiece p x → ¬ InPiece q x
+IsMeet a n p q (Some piece) = IsMeetOf a n p q piece
 
 -- ---- closure
 -- a piece with the points at which all relaxed rows of another hold
-pub record IsClosureOf (n : ℕ) (p piece : PlainPiece) : Type 0 where
+pub record IsClosureOf (a : Arithmetic) (n : ℕ) (p piece : PlainPiece) : Type 0 where
   pub points : (x : PlainPoint) → length x ≡ n → InPiece piece x ↔ InClosure p x
-  pub poly : IsPoly n piece
+  pub poly : IsPoly a n piece
 
 -- there is such a piece
-abbrev pub IsClosure : ℕ → PlainPiece → Option PlainPiece → Type 0
-IsClosure n p None = ⊥
-IsClosure n p (Some piece) = IsClosureOf n p piece
+abbrev pub IsClosure : Arithmetic → ℕ → PlainPiece → Option PlainPiece → Type 0
+IsClosure a n p None = ⊥
+IsClosure a n p (Some piece) = IsClosureOf a n p piece
 
 -- ---- includes
 -- some point over n variables is one of q and not of p
@@ -85,21 +94,15 @@ IsInclusion n p q true = (x : PlainPoint) → length x ≡ n → InPiece q x →
 IsInclusion n p q false = HasOutside n p q
 
 -- ---- project
--- some values of count later variables complete the point to one of the rows
-pub record Completes (count : ℕ) (rows : PlainPiece) (x : PlainPoint) : Type 0 where
-  pub later : PlainPoint
-  pub many : length later ≡ count
-  pub inside : InPiece rows (x ++ later)
-
 -- a piece with the points that some values of the later variables complete
-pub record IsProjectionOf (kept count : ℕ) (rows piece : PlainPiece) : Type 0 where
+pub record IsProjectionOf (a : Arithmetic) (kept count : ℕ) (rows piece : PlainPiece) : Type 0 where
   pub points : (x : PlainPoint) → length x ≡ kept → InPiece piece x ↔ Completes count rows x
-  pub poly : IsPoly kept piece
+  pub poly : IsPoly a kept piece
 
 -- none says that no point is completed, and a piece that it has the points that are
-abbrev pub IsProjection : ℕ → ℕ → PlainPiece → Option PlainPiece → Type 0
-IsProjection kept count rows None = (x : PlainPoint) → length x ≡ kept → ¬ Completes count rows x
-IsProjection kept count rows (Some piece) = IsProjectionOf kept count rows piece
+abbrev pub IsProjection : Arithmetic → ℕ → ℕ → PlainPiece → Option PlainPiece → Type 0
+IsProjection a kept count rows None = (x : PlainPoint) → length x ≡ kept → ¬ Completes count rows x
+IsProjection a kept count rows (Some piece) = IsProjectionOf a kept count rows piece
 
 -- ---- lists
 -- the pieces have the points of some p and of no q

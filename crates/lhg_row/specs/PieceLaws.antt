@@ -16,20 +16,20 @@ pub record PieceLaws : Type 0 where
   pub are_empty : (a : Arithmetic) (n : ℕ) (rows : PlainPiece) → IsLawful a → AllWide n rows → IsEmptiness n rows (are_empty a n rows).value
   pub entails : (a : Arithmetic) (n : ℕ) (rows : PlainPiece) (r : PlainRow) → IsLawful a → AllWide n rows → length r.coefs ≡ n
       → IsEntailment n rows r (entails a n rows r).value
-  pub make : (a : Arithmetic) (n : ℕ) (rows : PlainPiece) → IsLawful a → AllWide n rows → IsMade n rows (make a n rows).value
-  pub meet : (a : Arithmetic) (n : ℕ) (p q : PlainPiece) → IsLawful a → AllWide n p → AllWide n q → IsMeet n p q (meet a n p q).value
-  pub closure : (a : Arithmetic) (n : ℕ) (p : PlainPiece) → IsLawful a → AllWide n p → HasPoint n p → IsClosure n p (closure a n p).value
+  pub make : (a : Arithmetic) (n : ℕ) (rows : PlainPiece) → IsLawful a → AllWide n rows → IsMade a n rows (make a n rows).value
+  pub meet : (a : Arithmetic) (n : ℕ) (p q : PlainPiece) → IsLawful a → AllWide n p → AllWide n q → IsMeet a n p q (meet a n p q).value
+  pub closure : (a : Arithmetic) (n : ℕ) (p : PlainPiece) → IsLawful a → AllWide n p → HasPoint n p → IsClosure a n p (closure a n p).value
   pub includes : (a : Arithmetic) (n : ℕ) (p q : PlainPiece) → IsLawful a → AllWide n p → AllWide n q → IsInclusion n p q (includes a n p q).value
   pub project : (a : Arithmetic) (n kept : ℕ) (rows : PlainPiece) → IsLawful a → kept ≤ n → AllWide n rows
-      → IsProjection kept (n - kept) rows (project a n kept rows).value
+      → IsProjection a kept (n - kept) rows (project a n kept rows).value
 
 -- what is made of lists of pieces, for every lawful type
 pub record ListLaws : Type 0 where
   pub difference : (a : Arithmetic) (n : ℕ) (ps qs : List PlainPiece) → IsLawful a → AllOver n ps → AllOver n qs → IsDifference n ps qs (minus a n ps qs).value
-  pub difference_polys : (a : Arithmetic) (n : ℕ) (ps qs : List PlainPiece) → IsLawful a → AllPolys n ps → AllOver n qs → AllPolys n (minus a n ps qs).value
-  pub cover : (a : Arithmetic) (n : ℕ) (ps qs : List PlainPiece) → IsLawful a → AllPolys n ps → AllOver n qs → IsCovering n ps qs (covered a n ps qs).value
+  pub difference_polys : (a : Arithmetic) (n : ℕ) (ps qs : List PlainPiece) → IsLawful a → AllPolys a n ps → AllOver n qs → AllPolys a n (minus a n ps qs).value
+  pub cover : (a : Arithmetic) (n : ℕ) (ps qs : List PlainPiece) → IsLawful a → AllPolys a n ps → AllOver n qs → IsCovering n ps qs (covered a n ps qs).value
   pub intersection : (a : Arithmetic) (n : ℕ) (ps qs : List PlainPiece) → IsLawful a → AllOver n ps → AllOver n qs → IsIntersection n ps qs (meet_lists a n ps qs).value
-  pub intersection_polys : (a : Arithmetic) (n : ℕ) (ps qs : List PlainPiece) → IsLawful a → AllOver n ps → AllOver n qs → AllPolys n (meet_lists a n ps qs).value
+  pub intersection_polys : (a : Arithmetic) (n : ℕ) (ps qs : List PlainPiece) → IsLawful a → AllOver n ps → AllOver n qs → AllPolys a n (meet_lists a n ps qs).value
 
 -- whether a point is in a piece, and in some piece of a list, is told exactly
 pub record MembershipLaw : Type 0 where

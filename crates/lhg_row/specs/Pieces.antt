@@ -1,5 +1,5 @@
 -- What is the piece of a list of rows, and which pieces are made of pieces?
-use Rattle.std.specs.Prelude.{ℕ, zero, suc, ◌+◌, ◌-◌, Bool, true, false, cond, [], ◌∷◌, ◌++◌, map, length, remove, Option, Some, None}
+use Rattle.std.specs.Prelude.{ℕ, zero, suc, ◌-◌, Bool, true, false, cond, [], ◌∷◌, ◌++◌, map, length, remove, Option, Some, None}
 use Rattle.lhg_num.specs.Arithmetic.{Arithmetic}
 use Rattle.lhg_num.specs.Marked.{Marked, done, and_then, valued}
 use Rattle.lhg_row.specs.Row.{PlainRow, relaxed}
@@ -7,7 +7,7 @@ use Rattle.lhg_row.specs.Piece.{PlainPiece}
 use Rattle.lhg_row.specs.Moves.{negated}
 use Rattle.lhg_row.specs.MarkedTests.{marked_all}
 use Rattle.lhg_row.specs.Trim.{trim}
-use Rattle.lhg_row.specs.Eliminate.{row_at, eliminate, is_empty}
+use Rattle.lhg_row.specs.Eliminate.{row_at, eliminate_last, is_empty}
 
 -- whether rows over n variables have no point
 abbrev pub are_empty : Arithmetic → ℕ → PlainPiece → Marked Bool
@@ -50,11 +50,6 @@ abbrev pub includes : Arithmetic → ℕ → PlainPiece → PlainPiece → Marke
 includes a n p q = marked_all (entails a n q) p
 
 -- ---- project
--- the list without the last count of its variables, the last one eliminated first
-abbrev pub eliminate_last : Arithmetic → ℕ → ℕ → PlainPiece → Marked PlainPiece
-eliminate_last a kept zero rows = done rows
-eliminate_last a kept (suc count) rows = and_then (eliminate a (kept + count) rows) (eliminate_last a kept count)
-
 -- the piece that the first variables of a tidy list over n variables make
 abbrev pub project : Arithmetic → ℕ → ℕ → PlainPiece → Marked (Option PlainPiece)
 project a n kept rows = and_then (eliminate_last a kept (n - kept) rows) (make a kept)

@@ -1,5 +1,5 @@
--- What is a list of rows after trim?
-use Rattle.std.specs.Prelude.{ℕ, ◌+◌, ◌-◌, Bool, true, false, cond, not, ◌&&◌, ◌||◌, nat_lt, List, [], ◌∷◌, ◌++◌, length, take, get_or, filter, Option, Some, None}
+-- What is a list of rows after trim, and which lists does trim leave as they are?
+use Rattle.std.specs.Prelude.{◌≡◌, ℕ, ◌+◌, ◌-◌, Bool, true, false, cond, not, ◌&&◌, ◌||◌, nat_lt, List, [], ◌∷◌, ◌++◌, length, take, get_or, filter, Option, Some, None}
 use Rattle.std.specs.declared.cmp.Ordering.{Ordering}
 use Rattle.std.specs.declared.cmp.Ordering.TheVariants.{Less, Equal, Greater}
 use Rattle.lhg_math.specs.Number.{Number, nought}
@@ -95,3 +95,7 @@ settled a (r ∷ rows) =
 -- the rows scaled and gathered
 unfoldable pub trim : Arithmetic → PlainPiece → Marked PlainPiece
 trim a rows = and_then (counted rows) (λ rs. and_then (each (canon a) rs) (settled a))
+
+-- trim gives the list back
+abbrev pub IsTrimmed : Arithmetic → PlainPiece → Type 0
+IsTrimmed a rows = (trim a rows).value ≡ rows

@@ -8,9 +8,9 @@ use Rattle.std.specs.declared.cmp.Ordering.{Ordering}
 use Rattle.std.specs.declared.cmp.Ordering.TheVariants.{Less, Equal, Greater}
 use Rattle.lhg_math.specs.Number.{Number, mul, lt, nought, compare}
 use Rattle.lhg_math.specs.NumberOrder.{lt_antisymm}
-use Rattle.lhg_math.specs.Signs.{lead, same_number}
+use Rattle.lhg_math.specs.Signs.{is_nought, lead, same_number}
 use Rattle.lhg_math.specs.SignLaws.{size_above, same_is}
-use Rattle.lhg_math.specs.Tests.{Every, any_of, by_bool, false_true}
+use Rattle.lhg_math.specs.Tests.{AllOf, Every, any_of, by_bool, false_true}
 use Rattle.lhg_math.specs.Bounds.{under}
 use Rattle.lhg_math.specs.BoundPairs.{bounded, above_lesser, under_both}
 use Rattle.lhg_num.specs.Arithmetic.{Arithmetic, IsLawful, scaled, scaled_multiple}
@@ -84,18 +84,27 @@ module _ (a : Arithmetic) (r s : PlainRow) (r_varies : is_constant r ≡ false) 
       sym (es0 (s.strict || r.strict)) ∙ ap (λ t. under (bounded q t) v) (or_comm s.strict r.strict) ∙ under_both q v r.strict s.strict ∙ ap (λ b. under (bounded b r.strict) v && under (bounded q s.strict) v) (sym same) ∙ ap (λ b. b && under (bounded q s.strict) v) er ∙ ap (λ b. holds_at r x && b) es)))
 
 -- ---- the gathered rows
-tighter-varies : (o : Ordering) (s r : PlainRow) → varies s ≡ true → varies r ≡ true → varies (tighter o s r) ≡ true
-tighter-varies Less s r h k = k
-tighter-varies Equal s r h k = h
-tighter-varies Greater s r h k = h
+-- a fact of the coefficients of two rows is one of those of the tighter
+pub tighter-all : (P : List Number → Type 0) (o : Ordering) (s r : PlainRow) → P s.coefs → P r.coefs → P (tighter o s r).coefs
+tighter-all P Less s r h k = k
+tighter-all P Equal s r h k = h
+tighter-all P Greater s r h k = h
+
+-- a fact that the tighter of two rows takes over is one of all rows after a row is put among others
+module _ (a : Arithmetic) (P : PlainRow → Type 0) (taken : (o : Ordering) (s r : PlainRow) → P s → P r → P (tighter o s r)) where
+  pub placed-all : (r : PlainRow) (ss : PlainPiece) → P r → AllOf P ss → AllOf P (placed a r ss).value
+  placed-all r [] h k = (h, tt)
+  placed-all r (s ∷ ss) h k =
+      by_bool (same_direction a r s).value (λ e. rw e (taken (bound_order a r s).value s r k.0 h, k.1)) (λ e. rw e (k.0, placed-all r ss h k.1))
+
+  -- and of all rows that are gathered
+  pub gathered-all : (ks rows : PlainPiece) → AllOf P ks → AllOf P rows → AllOf P (gathered a ks rows).value
+  gathered-all ks [] h k = h
+  gathered-all ks (r ∷ rows) h k = gathered-all (placed a r ks).value rows (placed-all r ks k.0 h) k.1
 
 -- rows with a variable stay rows with a variable
 pub placed-varies : (a : Arithmetic) (r : PlainRow) (ss : PlainPiece) → varies r ≡ true → Every varies ss → Every varies (placed a r ss).value
-placed-varies a r [] h k = (h, tt)
-placed-varies a r (s ∷ ss) h k =
-    by_bool (same_direction a r s).value
-    (λ e. rw e (tighter-varies (bound_order a r s).value s r k.0 h, k.1))
-    (λ e. rw e (k.0, placed-varies a r ss h k.1))
+placed-varies a = placed-all a (λ r. varies r ≡ true) (tighter-all (λ cs. not (is_nought (lead cs)) ≡ true))
 
 -- the list with a row put among its own holds where both do
 placed-holds : (a : Arithmetic) (r : PlainRow) (ss : PlainPiece) (x : PlainPoint) → varies r ≡ true → Every varies ss
@@ -117,8 +126,7 @@ gathered-holds a ks (r ∷ rows) x h k =
 
 -- gathered rows with a variable are rows with a variable
 pub gathered-varies : (a : Arithmetic) (ks rows : PlainPiece) → Every varies ks → Every varies rows → Every varies (gathered a ks rows).value
-gathered-varies a ks [] h k = h
-gathered-varies a ks (r ∷ rows) h k = gathered-varies a (placed a r ks).value rows (placed-varies a r ks k.0 h) k.1
+gathered-varies a = gathered-all a (λ r. varies r ≡ true) (tighter-all (λ cs. not (is_nought (lead cs)) ≡ true))
 
 -- ---- trim
 settled-holds : (a : Arithmetic) (rows : PlainPiece) (x : PlainPoint) → in_piece (settled a rows).value x ≡ in_piece rows x

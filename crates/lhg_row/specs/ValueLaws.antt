@@ -24,7 +24,7 @@ all_false true = refl
 all_false false = refl
 
 -- the order of a value against a bound tells the truth
-fits_order-compare : (strict : Bool) (v b : Number) → fits_order strict (compare v b) ≡ cond strict (lt v b) (not (lt b v))
+pub fits_order-compare : (strict : Bool) (v b : Number) → fits_order strict (compare v b) ≡ cond strict (lt v b) (not (lt b v))
 fits_order-compare strict v b =
     by_bool (lt v b)
     (λ e. rw (e, lt_asym v b e) (all_true strict))

@@ -1,8 +1,7 @@
 -- How many coefficients have the rows of a list, and which lists are tidy?
 use Rattle.std.specs.Prelude.{◌≡◌, ◌<◌, ◌⊎◌, ℕ, true, length}
-use Rattle.lhg_math.specs.Tests.{Every}
+use Rattle.lhg_math.specs.Tests.{AllOf, Every}
 use Rattle.lhg_row.specs.Piece.{PlainPiece}
-use Rattle.lhg_row.specs.Members.{AllOf}
 use Rattle.lhg_row.specs.Constant.{varies, is_nothing}
 
 -- each row has n coefficients

@@ -2,8 +2,6 @@
 use Rattle.std.specs.Prelude.{◌≡◌, ℕ, zero, suc, ◌<◌, true, not, List, [], ◌∷◌, ◌++◌, map, length, filter, remove, Option, Some, None}
 use Rattle.std.proofs.Common.{refl, sym, ap, ◌∙◌, arith, inl, inr}
 use Rattle.std.proofs.lemmas.List.{length-map, length-replicate}
-use Rattle.std.specs.declared.cmp.Ordering.{Ordering}
-use Rattle.std.specs.declared.cmp.Ordering.TheVariants.{Less, Equal, Greater}
 use Rattle.lhg_math.specs.Number.{Number, mul, nought}
 use Rattle.lhg_math.specs.Signs.{size_of}
 use Rattle.lhg_math.specs.Tests.{any_of, by_bool, false_true}
@@ -16,11 +14,12 @@ use Rattle.lhg_row.specs.Constant.{is_constant, is_true, is_false, never, is_not
 use Rattle.lhg_row.specs.ConstantLaws.{never-never, never-dropped, is_never-is, filter-varies}
 use Rattle.lhg_row.specs.Width.{AllWide, IsTidy}
 use Rattle.lhg_row.specs.Combine.{comb, entries}
-use Rattle.lhg_row.specs.Trim.{entries_of, canon, same_direction, bound_order, tighter, placed, gathered, settled, trim}
-use Rattle.lhg_row.specs.TrimLaws.{row_of-canon, gathered-varies}
+use Rattle.lhg_row.specs.Trim.{entries_of, canon, gathered, settled, trim}
+use Rattle.lhg_row.specs.TrimLaws.{row_of-canon, tighter-all, gathered-all, gathered-varies}
 use Rattle.lhg_row.specs.Eliminate.{row_at, beside, same_side, partner, with_lowers, each_joined, combinations, without, pair_at, eliminate}
 use Rattle.lhg_row.specs.WithoutLaws.{filter-wide}
 use Rattle.lhg_row.specs.PairLaws.{HasPair, pair_at-is, beside-wide}
+use Rattle.lhg_row.specs.Members.{all-append}
 
 -- ---- trim
 canon-wide : (a : Arithmetic) (n : ℕ) (r : PlainRow) → IsLawful a → length r.coefs ≡ n → length (canon a r).value.coefs ≡ n
@@ -35,25 +34,11 @@ canons-wide a n (r ∷ rows) laws w = (canon-wide a n r laws w.0, canons-wide a 
 
 -- two lists of one width together have it
 pub append-wide : (n : ℕ) (xs ys : PlainPiece) → AllWide n xs → AllWide n ys → AllWide n (xs ++ ys)
-append-wide n [] ys v w = w
-append-wide n (x ∷ xs) ys v w = (v.0, append-wide n xs ys v.1 w)
-
--- the tighter of two rows of one width has it
-tighter-wide : (o : Ordering) (n : ℕ) (s r : PlainRow) → length s.coefs ≡ n → length r.coefs ≡ n → length (tighter o s r).coefs ≡ n
-tighter-wide Less n s r h k = k
-tighter-wide Equal n s r h k = h
-tighter-wide Greater n s r h k = h
-
--- a row put among others of its width leaves it to all
-pub placed-wide : (a : Arithmetic) (n : ℕ) (r : PlainRow) (ss : PlainPiece) → length r.coefs ≡ n → AllWide n ss → AllWide n (placed a r ss).value
-placed-wide a n r [] h w = (h, tt)
-placed-wide a n r (s ∷ ss) h w =
-    by_bool (same_direction a r s).value (λ e. rw e (tighter-wide (bound_order a r s).value n s r w.0 h, w.1)) (λ e. rw e (w.0, placed-wide a n r ss h w.1))
+append-wide n = all-append (λ r. length r.coefs ≡ n)
 
 -- gathered rows of one width have it
 pub gathered-wide : (a : Arithmetic) (n : ℕ) (ks rows : PlainPiece) → AllWide n ks → AllWide n rows → AllWide n (gathered a ks rows).value
-gathered-wide a n ks [] v w = v
-gathered-wide a n ks (r ∷ rows) v w = gathered-wide a n (placed a r ks).value rows (placed-wide a n r ks w.0 v) w.1
+gathered-wide a n = gathered-all a (λ r. length r.coefs ≡ n) (tighter-all (λ cs. length cs ≡ n))
 
 -- and so have the settled rows
 settled-wide : (a : Arithmetic) (n : ℕ) (rows : PlainPiece) → AllWide n rows → AllWide n (settled a rows).value

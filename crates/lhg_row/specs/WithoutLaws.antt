@@ -13,6 +13,7 @@ use Rattle.lhg_row.specs.Width.{AllWide}
 use Rattle.lhg_row.specs.HasValue.{HasValue}
 use Rattle.lhg_row.specs.Bars.{meets, stands, comb_bar, is_upper, is_lower, is_level, AreEliminated, eliminated_has_value, value_is_eliminated, filter_every}
 use Rattle.lhg_row.specs.ColumnLaws.{bar_at, holds-insert, holds-drop_column, holds-comb}
+use Rattle.lhg_row.specs.Members.{all-append, all_split, all-filter}
 
 -- the rows without the variable, and the combinations of each upper row with each lower one
 abbrev pub paired : Arithmetic → ℕ → PlainPiece → PlainPiece
@@ -21,18 +22,7 @@ paired a k rows = map (drop_column k) (filter (level_at k) rows ++ flat_map (λ 
 -- ---- lists
 -- a filter keeps the width
 pub filter-wide : (n : ℕ) (p : PlainRow → Bool) (rows : PlainPiece) → AllWide n rows → AllWide n (filter p rows)
-filter-wide n p [] h = tt
-filter-wide n p (r ∷ rs) h = by_bool (p r) (λ e. rw e (h.0, filter-wide n p rs h.1)) (λ e. rw e (filter-wide n p rs h.1))
-
--- what each member of two lists passes, each of both together does
-every_append : {A : Type 0} (f : A → Bool) (xs ys : List A) → Every f xs → Every f ys → Every f (xs ++ ys)
-every_append f [] ys h k = k
-every_append f (x ∷ xs) ys h k = (h.0, every_append f xs ys h.1 k)
-
--- and back
-append_every : {A : Type 0} (f : A → Bool) (xs ys : List A) → Every f (xs ++ ys) → Every f xs × Every f ys
-append_every f [] ys h = (tt, h)
-append_every f (x ∷ xs) ys h = let r = append_every f xs ys h.1 in ((h.0, r.0), r.1)
+filter-wide n p = all-filter (λ r. length r.coefs ≡ n) p
 
 -- the images that pass a test are the images of the members whose image passes it
 filter-map : {A B : Type 0} (t : A → B) (p : B → Bool) (xs : List A) → filter p (map t xs) ≡ map t (filter (λ x. p (t x)) xs)
@@ -86,7 +76,7 @@ module _ (a : Arithmetic) (k n : ℕ) (x : PlainPoint) (in_n : k < n) (n_is : n 
       → InPiece (map (drop_column k) (combs ls us)) x → Every (λ u. all_of (λ l. stands (comb_bar u l)) (map (bar_at k x) ls)) (map (bar_at k x) us)
   to_pairs [] ls wu up wl lo h = tt
   to_pairs (u ∷ us) ls wu up wl lo h =
-      let s = append_every (λ r. holds_at r x) _ _ (subst (λ rows. InPiece rows x) (map-append (drop_column k) (map (λ l. (comb a u l k).value) ls) (combs ls us)) h) in
+      let s = all_split (λ r. holds_at r x ≡ true) _ _ (subst (λ rows. InPiece rows x) (map-append (drop_column k) (map (λ l. (comb a u l k).value) ls) (combs ls us)) h) in
       (all_from_every _ (map (bar_at k x) ls) (row_pairs u ls wu.0 up.0 wl lo s.0), to_pairs us ls wu.1 up.1 wl lo s.1)
 
   -- and back
@@ -95,7 +85,7 @@ module _ (a : Arithmetic) (k n : ℕ) (x : PlainPoint) (in_n : k < n) (n_is : n 
   from_pairs [] ls wu up wl lo h = tt
   from_pairs (u ∷ us) ls wu up wl lo h =
       subst (λ rows. InPiece rows x) (sym (map-append (drop_column k) (map (λ l. (comb a u l k).value) ls) (combs ls us)))
-      (every_append (λ r. holds_at r x) _ _ (pairs_row u ls wu.0 up.0 wl lo (every_from_all _ (map (bar_at k x) ls) h.0)) (from_pairs us ls wu.1 up.1 wl lo h.1))
+      (all-append (λ r. holds_at r x ≡ true) _ _ (pairs_row u ls wu.0 up.0 wl lo (every_from_all _ (map (bar_at k x) ls) h.0)) (from_pairs us ls wu.1 up.1 wl lo h.1))
 
   -- ---- both directions
   -- where the list without the variable holds, some value of the variable satisfies the rows
@@ -104,7 +94,7 @@ module _ (a : Arithmetic) (k n : ℕ) (x : PlainPoint) (in_n : k < n) (n_is : n 
       let lev = filter (level_at k) rows in
       let us = filter (upper_at k) rows in
       let ls = filter (lower_at k) rows in
-      let s = append_every (λ r. holds_at r x) _ _ (subst (λ q. InPiece q x) (map-append (drop_column k) lev (combs ls us)) h) in
+      let s = all_split (λ r. holds_at r x ≡ true) _ _ (subst (λ q. InPiece q x) (map-append (drop_column k) lev (combs ls us)) h) in
       let bs = map (bar_at k x) rows in
       let q = to_pairs us ls (filter-wide n (upper_at k) rows w) (filter_every (upper_at k) rows) (filter-wide n (lower_at k) rows w) (filter_every (lower_at k) rows) s.1 in
       let el : AreEliminated bs = record {
@@ -125,4 +115,4 @@ module _ (a : Arithmetic) (k n : ℕ) (x : PlainPoint) (in_n : k < n) (n_is : n 
       let l1 : Every stands (map (bar_at k x) lev) = rw (filter-map (bar_at k x) is_level rows) at el.levels in
       let q : Every (λ u. all_of (λ l. stands (comb_bar u l)) (map (bar_at k x) ls)) (map (bar_at k x) us) = rw (filter-map (bar_at k x) is_lower rows, filter-map (bar_at k x) is_upper rows) at el.pairs in
       subst (λ p. InPiece p x) (sym (map-append (drop_column k) lev (combs ls us)))
-      (every_append (λ r. holds_at r x) _ _ (from_stand k x lev l1) (from_pairs us ls (filter-wide n (upper_at k) rows w) (filter_every (upper_at k) rows) (filter-wide n (lower_at k) rows w) (filter_every (lower_at k) rows) q))
+      (all-append (λ r. holds_at r x ≡ true) _ _ (from_stand k x lev l1) (from_pairs us ls (filter-wide n (upper_at k) rows w) (filter_every (upper_at k) rows) (filter-wide n (lower_at k) rows w) (filter_every (lower_at k) rows) q))

@@ -1,16 +1,27 @@
-// Rows made of one row: its negation, the row made weak, and the row over other variables.
+// Rows made of whole numbers, and rows made of one row: its negation, the row made weak, and the row over other variables.
 ghost use Rattle.std.specs.Prelude.{◌≡◌, ◌≢◌, ◌<◌, length, map, not, IfOk, All, AllPairs};
 ghost use Rattle.std.specs.List.{range_with_len};
-ghost use Rattle.lhg_math.specs.Number.{neg};
+ghost use Rattle.lhg_math.specs.Number.{neg, whole};
 ghost use Rattle.lhg_num.specs.Marked.{done};
 ghost use Rattle.lhg_num.specs.Halting.{IsHaltedByMemory};
-ghost use Rattle.lhg_row.specs.Row.{PlainRow, PlainPoint, holds_at, relaxed};
+ghost use Rattle.lhg_row.specs.Row.{PlainPoint, holds_at, relaxed, row_with};
 ghost use Rattle.lhg_row.specs.Kinds as plain;
 ghost use Rattle.lhg_row.specs.Moves as moves;
 
 use crate::rows::{Kind, Row};
-use lhg_num::{Halt, Scalar};
+use lhg_num::{Frac, Halt, Scalar};
 use std::alloc::Global;
+
+/// The row with these whole numbers as its coefficients and its bound. It halts for `Memory` alone.
+pub fn whole_row(alloc: Global, coefs: &[i64], kind: Kind, bound: i64) -> Result<Row<Frac>, Halt>
+    ensures { IsHaltedByMemory result (done (row_with (map whole coefs.now) (plain.is_strict kind) (whole bound))) (λ r. r) }
+{
+    Ok(Row {
+        coefs: fractions(alloc, coefs)?,
+        kind,
+        bound: Frac::from(bound),
+    })
+}
 
 /// The row that holds exactly where the old one does not. It halts for `Memory` alone.
 pub fn negate<N: Scalar>(alloc: Global, row: &Row<N>) -> Result<Row<N>, Halt>
@@ -54,6 +65,17 @@ pub fn rename<N: Scalar>(
         kind: row.kind,
         bound: row.bound,
     })
+}
+
+// The whole numbers as fractions.
+fn fractions(alloc: Global, numbers: &[i64]) -> Result<Vec<Frac>, Halt>
+    ensures { IsHaltedByMemory result (done (map whole numbers.now)) (λ v. v.items) }
+{
+    let mut out = Vec::with_capacity(alloc, numbers.len())?;
+    for n in numbers {
+        out.push(Frac::from(*n))?;
+    }
+    Ok(out)
 }
 
 // The numbers with the other sign.

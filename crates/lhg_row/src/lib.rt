@@ -2,6 +2,7 @@
 #![tactic(auto)]
 
 pub mod calculus_laws;
+mod copies;
 mod forms;
 pub mod laws;
 pub mod piece_laws;
@@ -13,7 +14,8 @@ mod tests;
 mod trimming;
 mod values;
 
-pub use forms::{negate, relax, rename};
+pub use copies::{append_rows, copy_row, copy_rows};
+pub use forms::{negate, relax, rename, whole_row};
 pub use rows::{Kind, Point, Row};
 pub use systems::System;
 pub use trimming::{ROW_LIMIT, trim};

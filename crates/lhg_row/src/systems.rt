@@ -1,12 +1,17 @@
-// Tidy lists of rows: `0 < 0` alone, or rows each of which has a variable.
+// Trimmed lists of rows.
 ghost use Rattle.std.specs.Prelude.{◌≡◌};
+ghost use Rattle.lhg_num.specs.Marked.{done};
+ghost use Rattle.lhg_num.specs.Halting.{IsHaltedByMemory};
 ghost use Rattle.lhg_row.specs.System.{PlainSystem, IsSystem};
 
+use crate::copies::copy_rows;
 use crate::rows::Row;
-use lhg_num::Scalar;
+use lhg_num::{Halt, Scalar};
+use std::alloc::Global;
 use std::marker::Model;
 
-/// A number of variables and a tidy list of rows, each with that many coefficients: `0 < 0` alone, or rows each of which has a variable.
+/// A number of variables and a trimmed list of rows, each with that many coefficients: `trim` gives the list back. So it is `0 < 0`
+/// alone, or its rows are scaled, each has a variable, and no two have one direction.
 #[derive(Drop)]
 pub struct System<N: Scalar> {
     vars: usize,
@@ -22,7 +27,7 @@ impl<N: Scalar> Model for System<N> {
 
     ghost view = { λ s. record { width = s.vars; lines = s.rows.items } };
 
-    ghost invariant = { λ s. IsSystem s.vars s.rows.items };
+    ghost invariant = { λ s. IsSystem N.arithmetic s.vars s.rows.items };
 }
 
 impl<N: Scalar> System<N> {
@@ -36,22 +41,35 @@ impl<N: Scalar> System<N> {
     /// The rows, in order.
     pub fn rows(&self) -> &[Row<N>]
         ensures rows { result.now ≡ self.now.lines }
-        ensures tidy { IsSystem self.now.width self.now.lines }
+        ensures trimmed { IsSystem N.arithmetic self.now.width self.now.lines }
     {
         &self.rows
     }
 
+    /// A copy. It halts for `Memory` alone.
+    pub fn copy(&self, alloc: Global) -> Result<System<N>, Halt>
+        ensures copy { IsHaltedByMemory result (done self.now) (λ s. s) }
+        ensures trimmed { IsSystem N.arithmetic self.now.width self.now.lines }
+    {
+        let rows = copy_rows(alloc, &self.rows)?;
+        Ok(System {
+            vars: self.vars,
+            rows,
+        })
+    }
+
     /// The rows by value.
     pub fn into_rows(self) -> Vec<Row<N>>
-        ensures { result.items ≡ self.lines }
+        ensures rows { result.items ≡ self.lines }
+        ensures trimmed { IsSystem N.arithmetic self.width self.lines }
     {
         let System { vars: _, rows } = self;
         rows
     }
 
-    /// The system of a tidy list, each row of which has `vars` coefficients.
+    /// The system of a trimmed list, each row of which has `vars` coefficients.
     pub fn of(vars: usize, rows: Vec<Row<N>>) -> System<N>
-        requires { IsSystem vars rows.items }
+        requires { IsSystem N.arithmetic vars rows.items }
         ensures { result ≡ record { width = vars; lines = rows.items } }
     {
         System { vars, rows }

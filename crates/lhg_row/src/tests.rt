@@ -3,7 +3,10 @@ ghost use Rattle.std.specs.Prelude.{◌≡◌, IfOk, length};
 ghost use Rattle.lhg_row.specs.Width.{AllWide};
 
 use crate::scaling::{Sense, agree, agree_at, lead, lead_size, size, stricter, times};
-use crate::{Kind, Point, ROW_LIMIT, Row, System, holds, negate, relax, rename, shift, trim};
+use crate::{
+    Kind, Point, ROW_LIMIT, Row, System, copy_rows, holds, negate, relax, rename, shift, trim,
+    whole_row,
+};
 use lhg_num::{Frac, Halt, Wide};
 use std::alloc::Global;
 use std::process::Abort;
@@ -32,24 +35,14 @@ fn shown(row: &Row<Frac>) -> Shown {
 fn over_x(alloc: Global, kind: Kind, bound: i64) -> Result<Row<Frac>, Halt>
     ensures { IfOk result (λ r. length r.coefs ≡ 1) }
 {
-    let coefs = [Frac::from(1)].to_vec(alloc)?;
-    Ok(Row {
-        coefs,
-        kind,
-        bound: Frac::from(bound),
-    })
+    whole_row(alloc, &[1], kind, bound)
 }
 
 fn row(alloc: Global, line: &Line) -> Result<Row<Frac>, Halt>
     ensures { IfOk result (λ r. length r.coefs ≡ 2) }
 {
     let (x, y, kind, bound) = *line;
-    let coefs = [Frac::from(x), Frac::from(y)].to_vec(alloc)?;
-    Ok(Row {
-        coefs,
-        kind,
-        bound: Frac::from(bound),
-    })
+    whole_row(alloc, &[x, y], kind, bound)
 }
 
 fn system(alloc: Global, lines: &[Line]) -> Result<System<Frac>, Halt> {
@@ -152,6 +145,28 @@ fn trims(rt: HostRuntime) -> Result<(), Fail> {
     assert_eq!(rt; ROW_LIMIT, 8192);
     assert_eq!(rt; steps(rt.alloc(), 8192)?.rows().len(), 1);
     assert_eq!(rt; steps(rt.alloc(), 8193).err(), Some(Halt::Rows));
+    Ok(())
+}
+
+#[test]
+fn copies(rt: HostRuntime) -> Result<(), Fail> {
+    let sys = system(
+        rt.alloc(),
+        &[(1, 2, Kind::Strict, 3), (0, -1, Kind::Weak, 0)],
+    )?;
+    let copy = sys.copy(rt.alloc())?;
+    assert_eq!(rt; copy.vars(), 2);
+    for rows in [copy.into_rows(), copy_rows(rt.alloc(), sys.rows())?] {
+        assert_eq!(rt; rows.len(), 2);
+        assert_eq!(rt;
+            rows.first().map(shown),
+            Some((2, Some((2, 1)), Kind::Strict, (3, 1)))
+        );
+        assert_eq!(rt;
+            rows.last().map(shown),
+            Some((2, Some((-1, 1)), Kind::Weak, (0, 1)))
+        );
+    }
     Ok(())
 }
 

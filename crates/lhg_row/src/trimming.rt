@@ -14,6 +14,7 @@ ghost use Rattle.lhg_row.specs.Trim as calculus;
 use crate::rows::{Kind, Row};
 use crate::scaling::{Sense, agree, lead, lead_size, stricter, times};
 use crate::systems::System;
+use crate::values::fits;
 use lhg_num::{Halt, Scalar, Wide};
 use std::alloc::Global;
 use std::cmp::Ordering;
@@ -225,9 +226,5 @@ fn is_true<N: Scalar>(row: &Row<N>) -> bool
 fn stands_alone<N: Scalar>(row: &Row<N>) -> bool
     ensures { result ≡ constant.stands_alone row.now }
 {
-    match row.bound.sign() {
-        Ordering::Less => false,
-        Ordering::Equal => !row.kind.is_strict(),
-        Ordering::Greater => true,
-    }
+    fits(row.kind, row.bound.sign().reverse())
 }

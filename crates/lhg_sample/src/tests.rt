@@ -5,7 +5,7 @@ ghost use Rattle.lhg_row.specs.Width.{AllWide};
 use crate::sample;
 use lhg_num::{Frac, Halt, Scalar};
 use lhg_poly::{Poly, make};
-use lhg_row::{Kind, Row};
+use lhg_row::{Kind, Row, whole_row};
 use std::alloc::Global;
 use std::process::Abort;
 use std::test::Fail;
@@ -47,12 +47,7 @@ fn row(alloc: Global, line: &Line) -> Result<Row<Frac>, Halt>
     ensures { IfOk result (λ r. length r.coefs ≡ 2) }
 {
     let (x, y, kind, bound) = *line;
-    let coefs = [Frac::from(x), Frac::from(y)].to_vec(alloc)?;
-    Ok(Row {
-        coefs,
-        kind,
-        bound: Frac::from(bound),
-    })
+    whole_row(alloc, &[x, y], kind, bound)
 }
 
 fn rows(alloc: Global, lines: &[Line]) -> Result<Vec<Row<Frac>>, Halt>

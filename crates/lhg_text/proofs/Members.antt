@@ -1,6 +1,6 @@
 -- What holds of each member of a list, member by member.
 use Rattle.std.proofs.Common.{◌≡◌, ◌<◌, ◌+◌, ℕ, zero, suc, List, [], ◌∷◌, length, map, drop, get_or, sym, subst, arith}
-use Rattle.lhg_row.specs.Members.{AllOf}
+use Rattle.lhg_math.specs.Tests.{AllOf}
 use Rattle.lhg_row.proofs.Steps.{drop_cons}
 
 -- what holds of each member holds of the one at a place

@@ -7,8 +7,7 @@ use Rattle.std.proofs.lemmas.Bool.{or_parts}
 use Rattle.std.proofs.lemmas.Bool.Decides.{nat_tests}
 use Rattle.std.proofs.lemmas.List.{length-map, length-append}
 use Rattle.std.proofs.lemmas.Slice.Eq.{bytes_eq-Decides}
-use Rattle.lhg_row.specs.Members.{AllOf}
-use Rattle.lhg_row.specs.MinusLaws.{all-append}
+use Rattle.lhg_math.specs.Tests.{AllOf}
 use Rattle.lhg_plant.specs.Word.{IsName}
 use Rattle.lhg_plant.specs.Differ.{is_among, all_differ, differ_from}
 use Rattle.lhg_read.specs.Term.{place_of, variable_of}
@@ -19,6 +18,7 @@ use Rattle.lhg_text.specs.RowText.{jump_names}
 use Rattle.lhg_text.proofs.RowReads.{AreAxes}
 use Rattle.lhg_text.proofs.RowTokens.{Axis, axis_text, axis_tokens, IsNamed}
 use Rattle.lhg_text.proofs.SumReads.{ArePlaced}
+use Rattle.lhg_row.specs.Members.{all-append}
 
 -- ---- the place of a name
 

@@ -4,10 +4,9 @@ use Rattle.std.specs.Option.{option_map}
 use Rattle.std.specs.Str.{bytes_eq}
 use Rattle.std.proofs.lemmas.Bool.Decides.{nat_tests}
 use Rattle.std.proofs.lemmas.Slice.Eq.{bytes_eq-Decides}
-use Rattle.lhg_math.specs.Tests.{by_bool, Every}
+use Rattle.lhg_math.specs.Tests.{AllOf, by_bool, Every}
 use Rattle.lhg_lex.specs.PlainToken.{PlainToken, word}
 use Rattle.lhg_lex.specs.Word.{is_word}
-use Rattle.lhg_row.specs.Members.{AllOf}
 use Rattle.lhg_row.specs.Constant.{varies}
 use Rattle.lhg_row.specs.Piece.{PlainPiece}
 use Rattle.lhg_row.specs.Width.{AllWide}

@@ -6,13 +6,12 @@ use Rattle.std.proofs.lemmas.Bool.{and_parts}
 use Rattle.std.proofs.lemmas.Bool.Decides.{nat_tests}
 use Rattle.std.proofs.lemmas.List.{length-map, length-take-le, take-append-drop}
 use Rattle.std.proofs.Common.{drop-cons}
-use Rattle.lhg_math.specs.Tests.{Every}
+use Rattle.lhg_math.specs.Tests.{AllOf, Every}
 use Rattle.lhg_lex.specs.Lines.{lines_of}
 use Rattle.lhg_lex.specs.LineTokens.{Spot, tokens_of}
 use Rattle.lhg_lex.specs.PlainToken.{PlainToken, word}
 use Rattle.lhg_lex.proofs.TextLawProofs.{text_laws}
 use Rattle.lhg_row.specs.Constant.{varies}
-use Rattle.lhg_row.specs.Members.{AllOf}
 use Rattle.lhg_row.specs.Piece.{PlainPiece}
 use Rattle.lhg_plant.specs.Plant.{PlainLocation, PlainSwitch, PlainPlant}
 use Rattle.lhg_plant.specs.Word.{IsName, IsVariable}

@@ -4,12 +4,11 @@ use Rattle.std.specs.Int.RustNames.{unsigned_abs}
 use Rattle.lhg_math.specs.Number.{Number, neg, lt, nought}
 use Rattle.lhg_math.specs.Reduce.{abs-neg}
 use Rattle.lhg_math.specs.Signs.{is_nought}
-use Rattle.lhg_math.specs.Tests.{by_bool}
+use Rattle.lhg_math.specs.Tests.{AllOf, by_bool}
 use Rattle.lhg_lex.specs.PlainToken.{PlainToken, word, number, sign, two_signs}
 use Rattle.lhg_lex.specs.Token.{is_sign_byte, is_pair}
 use Rattle.lhg_lex.specs.Word.{is_word}
 use Rattle.lhg_lex.specs.Literal.{limit}
-use Rattle.lhg_row.specs.Members.{AllOf}
 use Rattle.lhg_row.specs.Piece.{PlainPiece}
 use Rattle.lhg_row.specs.Row.{PlainRow}
 use Rattle.lhg_text.specs.RowText.{size_text, number_text, term_text, next_terms, terms_text, operator_text, turned, leads_negative, row_text, row_text_by, next_rows, rows_text}

@@ -13,9 +13,8 @@ use Rattle.lhg_math.specs.NumberOrder.{lt-nought_neg, lt_asym, lt_antisymm}
 use Rattle.lhg_math.specs.Reduce.{abs-neg}
 use Rattle.lhg_math.specs.Signs.{is_nought}
 use Rattle.lhg_math.specs.SignLaws.{nought_is}
-use Rattle.lhg_math.specs.Tests.{by_bool}
+use Rattle.lhg_math.specs.Tests.{AllOf, by_bool}
 use Rattle.lhg_lex.specs.Literal.{limit}
-use Rattle.lhg_row.specs.Members.{AllOf}
 use Rattle.lhg_text.specs.RowText.{size_text, number_text, term_text, next_term, turned}
 use Rattle.lhg_text.specs.Short.{IsShort}
 use Rattle.lhg_text.proofs.Magnitudes.{top_is}

@@ -3,7 +3,7 @@ use Rattle.std.specs.Prelude.{◌≤◌}
 use Rattle.std.specs.Int.RustNames.{unsigned_abs}
 use Rattle.lhg_math.specs.Number.{Number}
 use Rattle.lhg_lex.specs.Literal.{limit}
-use Rattle.lhg_row.specs.Members.{AllOf}
+use Rattle.lhg_math.specs.Tests.{AllOf}
 use Rattle.lhg_row.specs.Piece.{PlainPiece}
 use Rattle.lhg_row.specs.Row.{PlainRow}
 use Rattle.lhg_plant.specs.Plant.{PlainLocation, PlainPlant}

@@ -1,7 +1,7 @@
 // Prints rows and lists of rows.
 ghost use Rattle.std.specs.Prelude.{◌≡◌, ◌≤◌, ◌+◌, ◌++◌, OnOk, length, not, position};
 ghost use Rattle.lhg_math.specs.Signs.{is_nought};
-ghost use Rattle.lhg_row.specs.Members.{AllOf};
+ghost use Rattle.lhg_math.specs.Tests.{AllOf};
 ghost use Rattle.lhg_row.specs.Width.{AllWide};
 ghost use Rattle.lhg_text.specs.RowText.{turned, operator_text, number_text, jump_names, row_text, next_rows, rows_text};
 ghost use Rattle.lhg_text.specs.Short.{IsShort, IsShortRow, AllShort};

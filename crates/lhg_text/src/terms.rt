@@ -1,7 +1,7 @@
 // Prints the terms of rows.
 ghost use Rattle.std.specs.Prelude.{◌≡◌, ◌<◌, ◌≤◌, ◌+◌, ◌++◌, [], OnOk, false, length, map, drop, slice_index_or};
 ghost use Rattle.lhg_math.specs.Number.{lt, nought};
-ghost use Rattle.lhg_row.specs.Members.{AllOf};
+ghost use Rattle.lhg_math.specs.Tests.{AllOf};
 ghost use Rattle.lhg_text.specs.RowText.{jump_names, term_text, next_term, next_terms, terms_from, turned};
 ghost use Rattle.lhg_text.specs.Short.{IsShort};
 

@@ -9,12 +9,12 @@ use Rattle.lhg_row.specs.Row.{PlainPoint}
 use Rattle.lhg_row.specs.MarkedTests.{marked_any}
 use Rattle.lhg_row.specs.Truths.{piece_truth, some_truth}
 use Rattle.lhg_row.specs.Piece.{PlainPiece}
-use Rattle.lhg_row.specs.Members.{AllOf}
+use Rattle.lhg_math.specs.Tests.{AllOf}
 use Rattle.lhg_row.specs.System.{PlainSystem}
 use Rattle.lhg_row.specs.Lists.{listed, is_nil}
 use Rattle.lhg_row.specs.PieceFacts.{IsPoly, AllPolys}
-use Rattle.lhg_row.specs.MinusLaws.{all-append}
 use Rattle.lhg_union.specs.PolyLists.{lines_of, AllVars, ArePolys}
+use Rattle.lhg_row.specs.Members.{all-append}
 
 -- the rows of two lists together
 pub lines_of-append : (ps qs : List PlainSystem) → lines_of (ps ++ qs) ≡ lines_of ps ++ lines_of qs
@@ -26,9 +26,9 @@ listed-append None ps = refl
 listed-append (Some p) ps = refl
 
 -- pieces over n variables with points
-pub polys_over : (n : ℕ) (ps : List PlainSystem) → AllVars n ps → ArePolys ps → AllPolys n (lines_of ps)
-polys_over n [] v h = tt
-polys_over n (p ∷ ps) v h = (subst (λ m. IsPoly m p.lines) v.0 h.0, polys_over n ps v.1 h.1)
+pub polys_over : (a : Arithmetic) (n : ℕ) (ps : List PlainSystem) → AllVars n ps → ArePolys a ps → AllPolys a n (lines_of ps)
+polys_over a n [] v h = tt
+polys_over a n (p ∷ ps) v h = (subst (λ m. IsPoly a m p.lines) v.0 h.0, polys_over a n ps v.1 h.1)
 
 -- what holds of all members holds of one
 pub all_at : {A : Type 0} (P : A → Type 0) (xs : List A) (i : ℕ) (x : A) → x ≡ get_or xs i x → i < length xs → AllOf P xs → P x
@@ -55,9 +55,9 @@ some_truth-is a [] x = refl
 some_truth-is a (p ∷ ps) x = ap (λ (m : Marked Bool). and_then (piece_truth a p.lines x) (λ b. valued (λ c. b || c) m)) (some_truth-is a ps x)
 
 -- and back
-pub polys_back : (n : ℕ) (ps : List PlainSystem) → AllVars n ps → AllPolys n (lines_of ps) → ArePolys ps
-polys_back n [] v h = tt
-polys_back n (p ∷ ps) v h = (subst (λ m. IsPoly m p.lines) (sym v.0) h.0, polys_back n ps v.1 h.1)
+pub polys_back : (a : Arithmetic) (n : ℕ) (ps : List PlainSystem) → AllVars n ps → AllPolys a n (lines_of ps) → ArePolys a ps
+polys_back a n [] v h = tt
+polys_back a n (p ∷ ps) v h = (subst (λ m. IsPoly a m p.lines) (sym v.0) h.0, polys_back a n ps v.1 h.1)
 
 -- a list has no member where its length is 0
 pub nil_test : (ps : List PlainSystem) → is_nil (lines_of ps) ≡ (length ps == 0)

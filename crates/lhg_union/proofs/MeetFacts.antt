@@ -16,21 +16,21 @@ unfolding meet_lists
 none_met a n qs = refl
 
 -- the pieces are over n variables
-over : (n i : ℕ) (ps : List PlainSystem) → AllVars n ps → length ps ≤ i → ArePolys (take i ps) → AllOver n (lines_of ps)
-over n i ps v h k = polys-over n (lines_of ps) (polys_over n ps v (all_taken (λ p. IsPoly p.width p.lines) ps i h k))
+over : (a : Arithmetic) (n i : ℕ) (ps : List PlainSystem) → AllVars n ps → length ps ≤ i → ArePolys a (take i ps) → AllOver n (lines_of ps)
+over a n i ps v h k = polys-over a n (lines_of ps) (polys_over a n ps v (all_taken (λ p. IsPoly a p.width p.lines) ps i h k))
 
 -- the answer has the points of both lists
 pub met-points : (a : Arithmetic) (n : ℕ) (ps qs out : List PlainSystem) (i : ℕ) → IsLawful a → AllVars n ps → AllVars n qs → length ps ≤ i → lines_of out ≡ (meet_lists a n (lines_of ps) (lines_of qs)).value
-    → ArePolys (take i ps) → (0 < i → ArePolys qs) → IsIntersection n (lines_of ps) (lines_of qs) (lines_of out)
+    → ArePolys a (take i ps) → (0 < i → ArePolys a qs) → IsIntersection n (lines_of ps) (lines_of qs) (lines_of out)
 met-points a n [] qs out i laws v w h is k f = subst (IsIntersection n [] (lines_of qs)) (sym (is ∙ none_met a n (lines_of qs))) (λ x e. refl)
 met-points a n (p ∷ ps) qs out i laws v w h is k f =
     subst (IsIntersection n (lines_of (p ∷ ps)) (lines_of qs)) (sym is)
-    (meet_lists-exact a n (lines_of (p ∷ ps)) (lines_of qs) laws (over n i (p ∷ ps) v h k) (polys-over n (lines_of qs) (polys_over n qs w (f (omega arith)))))
+    (meet_lists-exact a n (lines_of (p ∷ ps)) (lines_of qs) laws (over a n i (p ∷ ps) v h k) (polys-over a n (lines_of qs) (polys_over a n qs w (f (omega arith)))))
 
 -- and its pieces have points
 pub met-polys : (a : Arithmetic) (n : ℕ) (ps qs out : List PlainSystem) (i : ℕ) → IsLawful a → AllVars n ps → AllVars n qs → AllVars n out → length ps ≤ i → lines_of out ≡ (meet_lists a n (lines_of ps) (lines_of qs)).value
-    → ArePolys (take i ps) → (0 < i → ArePolys qs) → ArePolys out
-met-polys a n [] qs out i laws v w u h is k f = polys_back n out u (subst (AllPolys n) (sym (is ∙ none_met a n (lines_of qs))) tt)
+    → ArePolys a (take i ps) → (0 < i → ArePolys a qs) → ArePolys a out
+met-polys a n [] qs out i laws v w u h is k f = polys_back a n out u (subst (AllPolys a n) (sym (is ∙ none_met a n (lines_of qs))) tt)
 met-polys a n (p ∷ ps) qs out i laws v w u h is k f =
-    polys_back n out u
-    (subst (AllPolys n) (sym is) (meet_lists-polys a n (lines_of (p ∷ ps)) (lines_of qs) laws (over n i (p ∷ ps) v h k) (polys-over n (lines_of qs) (polys_over n qs w (f (omega arith))))))
+    polys_back a n out u
+    (subst (AllPolys a n) (sym is) (meet_lists-polys a n (lines_of (p ∷ ps)) (lines_of qs) laws (over a n i (p ∷ ps) v h k) (polys-over a n (lines_of qs) (polys_over a n qs w (f (omega arith))))))

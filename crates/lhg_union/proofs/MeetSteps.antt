@@ -9,11 +9,11 @@ use Rattle.lhg_row.specs.System.{PlainSystem}
 use Rattle.lhg_row.specs.Eliminate.{each_joined}
 use Rattle.lhg_row.specs.Pieces.{meet}
 use Rattle.lhg_row.specs.Lists.{listed, counted_pieces, meet_each, meet_lists}
-use Rattle.lhg_row.specs.MinusLaws.{all-append}
 use Rattle.lhg_row.proofs.Steps.{drop_cons}
 use Rattle.lhg_union.specs.PolyLists.{lines_of, AllVars}
 use Rattle.lhg_union.proofs.ListFacts.{listed-append, lines_of-append, all_at}
 use Rattle.lhg_union.proofs.GatherSteps.{more-part, more-step, counted-part, joined-part}
+use Rattle.lhg_row.specs.Members.{all-append}
 
 -- ---- one piece with a list
 -- the meets so far with the rows of each member of a list

@@ -8,11 +8,11 @@ use Rattle.lhg_row.specs.Piece.{PlainPiece}
 use Rattle.lhg_row.specs.System.{PlainSystem}
 use Rattle.lhg_row.specs.Eliminate.{each_joined}
 use Rattle.lhg_row.specs.Lists.{minus_piece, minus_one, minus}
-use Rattle.lhg_row.specs.MinusLaws.{all-append}
 use Rattle.lhg_row.proofs.Steps.{drop_cons}
 use Rattle.lhg_union.specs.PolyLists.{lines_of, AllVars}
 use Rattle.lhg_union.proofs.ListFacts.{lines_of-append, all_at}
 use Rattle.lhg_union.proofs.GatherSteps.{more-part, more-step}
+use Rattle.lhg_row.specs.Members.{all-append}
 
 -- ---- a list by one piece
 -- what is left of the pieces so far, and the pieces to come

@@ -1,7 +1,8 @@
 -- What do contracts see of lists of pieces that the code holds?
 use Rattle.std.specs.Prelude.{◌≡◌, ℕ, List, [], ◌∷◌, map, Option, Some, None}
+use Rattle.lhg_math.specs.Tests.{AllOf}
+use Rattle.lhg_num.specs.Arithmetic.{Arithmetic}
 use Rattle.lhg_row.specs.Piece.{PlainPiece}
-use Rattle.lhg_row.specs.Members.{AllOf}
 use Rattle.lhg_row.specs.System.{PlainSystem}
 use Rattle.lhg_row.specs.PieceFacts.{IsPoly}
 
@@ -18,9 +19,9 @@ as_list (Some p) = p ∷ []
 abbrev pub AllVars : ℕ → List PlainSystem → Type 0
 AllVars n ps = AllOf (λ p. p.width ≡ n) ps
 
--- each piece has tidy rows and a point
-abbrev pub ArePolys : List PlainSystem → Type 0
-ArePolys ps = AllOf (λ p. IsPoly p.width p.lines) ps
+-- each piece has trimmed rows, a point, and no row that follows from its others
+abbrev pub ArePolys : Arithmetic → List PlainSystem → Type 0
+ArePolys a ps = AllOf (λ p. IsPoly a p.width p.lines) ps
 
 -- all pieces of both lists are over one number of variables
 pub record HaveVars (ps qs : List PlainSystem) : Type 0 where

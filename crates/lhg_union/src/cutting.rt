@@ -13,8 +13,8 @@ ghost use Rattle.lhg_row.specs.Lists as calculus;
 ghost use Rattle.lhg_union.specs.PolyLists.{lines_of, as_list, AllVars, ArePolys};
 
 use lhg_num::{Halt, Scalar};
-use lhg_poly::{Poly, are_apart, copy_row, copy_rows, make};
-use lhg_row::{Row, negate};
+use lhg_poly::{Poly, are_apart, make};
+use lhg_row::{Row, copy_row, copy_rows, negate};
 use std::alloc::Global;
 
 /// The points of p that are not points of q, as a list of pieces.
@@ -26,8 +26,8 @@ pub(crate) fn minus_piece<N: Scalar>(
     requires { p.width ≡ q.now.width }
     ensures calculus { IsHaltedByRows result (calculus.minus_piece N.arithmetic q.now.width p.lines q.now.lines) (λ v. lines_of v.items) }
     ensures vars { IfOk result (λ v. AllVars q.now.width v.items) }
-    ensures poly { IsPoly p.width p.lines }
-    ensures other { IsPoly q.now.width q.now.lines }
+    ensures poly { IsPoly N.arithmetic p.width p.lines }
+    ensures other { IsPoly N.arithmetic q.now.width q.now.lines }
 {
     let rows = p.rows();
     let others = q.rows();

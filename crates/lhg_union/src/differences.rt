@@ -19,7 +19,7 @@ pub fn minus<N: Scalar>(alloc: Global, ps: &[Poly<N>], qs: &[Poly<N>]) -> Result
     requires { HaveVars ps.now qs.now }
     ensures calculus { (n : ℕ) → AllVars n ps.now → AllVars n qs.now → IsHaltedBy result (calculus.minus N.arithmetic n (lines_of ps.now) (lines_of qs.now)) (λ v. lines_of v.items) }
     ensures vars { (n : ℕ) → AllVars n ps.now → AllVars n qs.now → IfOk result (λ v. AllVars n v.items) }
-    ensures polys { IfOk result (λ v. ArePolys v.items) }
+    ensures polys { IfOk result (λ v. ArePolys N.arithmetic v.items) }
     ensures points { (n : ℕ) → AllVars n ps.now → AllVars n qs.now → IfOk result (λ v. IsDifference n (lines_of ps.now) (lines_of qs.now) (lines_of v.items)) }
 {
     let mut left = copies(alloc, ps)?;
@@ -46,7 +46,7 @@ fn minus_one<N: Scalar>(alloc: Global, ps: Vec<Poly<N>>, q: &Poly<N>) -> Result<
     requires { AllVars q.now.width ps.items }
     ensures calculus { IsHaltedBy result (calculus.minus_one N.arithmetic q.now.width (lines_of ps.items) q.now.lines) (λ v. lines_of v.items) }
     ensures vars { IfOk result (λ v. AllVars q.now.width v.items) }
-    ensures poly { IsPoly q.now.width q.now.lines }
+    ensures poly { IsPoly N.arithmetic q.now.width q.now.lines }
 {
     // A call on q tells its invariant, for `poly`.
     let _ = q.rows();
@@ -61,7 +61,7 @@ fn minus_one<N: Scalar>(alloc: Global, ps: Vec<Poly<N>>, q: &Poly<N>) -> Result<
 // Copies of the pieces.
 fn copies<N: Scalar>(alloc: Global, ps: &[Poly<N>]) -> Result<Vec<Poly<N>>, Halt>
     ensures copies { IsHaltedByMemory result (done ps.now) (λ v. v.items) }
-    ensures polys { IfOk result (λ _. ArePolys ps.now) }
+    ensures polys { IfOk result (λ _. ArePolys N.arithmetic ps.now) }
 {
     let mut out = Vec::with_capacity(alloc, ps.len())?;
     for p in ps {

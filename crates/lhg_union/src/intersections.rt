@@ -25,7 +25,7 @@ pub fn meet_lists<N: Scalar>(
     requires { HaveVars ps.now qs.now }
     ensures calculus { (n : ℕ) → AllVars n ps.now → AllVars n qs.now → IsHaltedBy result (calculus.meet_lists N.arithmetic n (lines_of ps.now) (lines_of qs.now)) (λ v. lines_of v.items) }
     ensures vars { (n : ℕ) → AllVars n ps.now → AllVars n qs.now → IfOk result (λ v. AllVars n v.items) }
-    ensures polys { IfOk result (λ v. ArePolys v.items) }
+    ensures polys { IfOk result (λ v. ArePolys N.arithmetic v.items) }
     ensures points { (n : ℕ) → AllVars n ps.now → AllVars n qs.now → IfOk result (λ v. IsIntersection n (lines_of ps.now) (lines_of qs.now) (lines_of v.items)) }
 {
     let mut out = Vec::new(alloc);
@@ -41,8 +41,8 @@ fn meet_each<N: Scalar>(alloc: Global, p: &Poly<N>, qs: &[Poly<N>]) -> Result<Ve
     requires { AllVars p.now.width qs.now }
     ensures calculus { IsHaltedByRows result (calculus.meet_each N.arithmetic p.now.width p.now.lines (lines_of qs.now)) (λ v. lines_of v.items) }
     ensures vars { IfOk result (λ v. AllVars p.now.width v.items) }
-    ensures poly { IsPoly p.now.width p.now.lines }
-    ensures polys { IfOk result (λ _. ArePolys qs.now) }
+    ensures poly { IsPoly N.arithmetic p.now.width p.now.lines }
+    ensures polys { IfOk result (λ _. ArePolys N.arithmetic qs.now) }
 {
     // A call on p tells its invariant, for `poly`.
     let _ = p.rows();
@@ -64,7 +64,7 @@ fn meet_one<N: Scalar>(
     requires vars { AllVars p.now.width out.old.items }
     ensures list { IsHaltedByRows result (valued (λ o. lines_of out.old.items ++ calculus.listed o []) (meet N.arithmetic p.now.width p.now.lines q.now.lines)) (λ _. lines_of out.new.items) }
     ensures vars { OnOk result (AllVars p.now.width out.new.items) }
-    ensures poly { IsPoly q.now.width q.now.lines }
+    ensures poly { IsPoly N.arithmetic q.now.width q.now.lines }
 {
     // A call on q tells its invariant, for `poly`.
     let _ = q.rows();

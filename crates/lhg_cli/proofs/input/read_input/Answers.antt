@@ -1,15 +1,15 @@
 use Rattle.std.proofs.Common.{subst}
 use Rattle.std.proofs.lemmas.Result.{err_from_is_err_and}
 use Rattle.lhg_plant.specs.Views.{plain_plant}
-use Rattle.lhg_read.specs.PlantText.{IsPlant, IsSomePlant}
-use Rattle.lhg_read.specs.TokenText.{IsTextBy, ReadsText, HasCause}
+use Rattle.lhg_read.specs.PlantText.{IsPlant, IsSomePlantText}
+use Rattle.lhg_read.specs.TokenText.{ReadsText, HasCause}
 use Rattle.lhg_cli.proofs.WholeInput.{plant_refused, plant_ends, surplus_refused}
 use Rattle.lhg_cli.proofs.input.read_input.Goals as goal
 
 pub returns-in_err-plant-clause-err : goal.returns-in_err-plant-clause-err
 returns-in_err-plant-clause-err c =
     let p = err_from_is_err_and c.from_residual.result c.from_residual.ensures.1 in
-    rw (p.1, p.2) (plant_refused c.args.bytes.now c.in_err-plant.field-0.0 (subst (λ s. HasCause (IsTextBy IsSomePlant) s c.in_err-plant.field-0.0) c.new-lines.ensures c.in_err-plant.ensures.err))
+    rw (p.1, p.2) (plant_refused c.args.bytes.now c.in_err-plant.field-0.0 (subst (λ s. HasCause IsSomePlantText s c.in_err-plant.field-0.0) c.new-lines.ensures c.in_err-plant.ensures.err))
 
 pub returns-in_err-finish-clause-err : goal.returns-in_err-finish-clause-err
 returns-in_err-finish-clause-err c =

@@ -5,14 +5,14 @@ use Rattle.lhg_plant.specs.SafeRegion.{safe_list}
 use Rattle.lhg_plant.specs.Views.{plain_location, plain_plant}
 use Rattle.lhg_num.specs.MarkedLaws.{IsPart}
 use Rattle.lhg_plant.specs.SafeRegion.{safe_region}
-use Rattle.lhg_row.specs.Members.{AllOf}
-use Rattle.lhg_row.specs.MinusLaws.{all-append}
+use Rattle.lhg_math.specs.Tests.{AllOf}
 use Rattle.lhg_row.specs.System.{PlainSystem}
 use Rattle.std.specs.Global.{Vec}
 use Rattle.lhg_union.specs.PolyLists.{lines_of, AllVars}
 use Rattle.lhg_union.specs.Regions.{plain_region}
 use Rattle.lhg_cli.proofs.SafeSteps.{region-end, location-proper, region-part, region-step}
 use Rattle.lhg_cli.proofs.safe.safe_region.Goals as goal
+use Rattle.lhg_row.specs.Members.{all-append}
 
 pub safe_pieces-requires : goal.safe_pieces-requires
 safe_pieces-requires c =

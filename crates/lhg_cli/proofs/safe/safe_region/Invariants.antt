@@ -1,5 +1,5 @@
 use Rattle.std.proofs.Common.{◌≡◌, length}
-use Rattle.lhg_row.specs.Members.{AllOf}
+use Rattle.lhg_math.specs.Tests.{AllOf}
 use Rattle.lhg_union.specs.PolyLists.{AllVars}
 use Rattle.lhg_cli.proofs.SafeSteps.{IsBuilding}
 use Rattle.lhg_cli.proofs.safe.safe_region.Given as goal

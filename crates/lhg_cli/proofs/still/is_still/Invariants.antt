@@ -1,5 +1,5 @@
 use Rattle.std.proofs.Common.{◌≡◌, length, map, take}
-use Rattle.lhg_row.specs.Members.{AllOf}
+use Rattle.lhg_math.specs.Tests.{AllOf}
 use Rattle.lhg_plant.specs.Views.{plain_location}
 use Rattle.lhg_plant.specs.Still.{still_rows}
 use Rattle.lhg_cli.proofs.still.is_still.Given as goal

@@ -29,13 +29,13 @@ returns-then-empty-clause-points g c =
     let rows = c.args.rows.items in
     let none = make-none a n rows c.in_ok-system.system.width c.in_ok-system.system.lines c.in_ok-system.ensures.width c.in_ok-system.ensures.list
     c.in_ok-empty.empty c.in_ok-empty.ensures.calculus c.if-empty.true in
-    subst (IsMade n rows) (sym none) (make-exact a n rows g.met.N.Scalar.lawful c.requires)
+    subst (IsMade a n rows) (sym none) (make-exact a n rows g.met.N.Scalar.lawful c.requires)
 
 pub returns-in_err-kept-clause-calculus : goal.returns-in_err-kept-clause-calculus
 returns-in_err-kept-clause-calculus g c =
     part_halts_rows c.from_residual-in_err-kept.result c.in_err-kept.field-0.0 _ (option_map (λ p. p.lines)) _ (λ v. v.items) c.from_residual-in_err-kept.ensures.1 c.in_err-kept.ensures
     (make-thin_part g.N.Scalar.arithmetic c.args.vars c.args.rows.items c.in_ok-system.system.width c.in_ok-system.system.lines c.in_ok-system.ensures.width c.in_ok-system.ensures.list
-    c.in_ok-empty.empty c.in_ok-empty.ensures.calculus c.if-empty.false c.into_rows.result.items (c.into_rows.ensures ∙ c.in_ok-system.ensures.list))
+    c.in_ok-empty.empty c.in_ok-empty.ensures.calculus c.if-empty.false c.into_rows.result.items (c.into_rows.ensures.rows ∙ c.in_ok-system.ensures.list))
 
 pub of-requires : goal.of-requires
 of-requires g c =
@@ -43,15 +43,15 @@ of-requires g c =
     let n = c.args.vars in
     let rows = c.args.rows.items in
     let some = make-some a n rows c.in_ok-system.system.width c.in_ok-system.system.lines c.in_ok-system.ensures.width c.in_ok-system.ensures.list
-    c.in_ok-empty.empty c.in_ok-empty.ensures.calculus c.if-empty.false c.into_rows.result.items (c.into_rows.ensures ∙ c.in_ok-system.ensures.list)
+    c.in_ok-empty.empty c.in_ok-empty.ensures.calculus c.if-empty.false c.into_rows.result.items (c.into_rows.ensures.rows ∙ c.in_ok-system.ensures.list)
     c.in_ok-kept.kept.items c.in_ok-kept.ensures in
-    (subst (IsMade n rows) (sym some) (make-exact a n rows g.met.N.Scalar.lawful c.requires)).poly
+    (subst (IsMade a n rows) (sym some) (make-exact a n rows g.met.N.Scalar.lawful c.requires)).poly
 
 pub returns-clause-calculus : goal.returns-clause-calculus
 returns-clause-calculus g c =
     ap (λ (s : PlainSystem). Some s.lines) c.of.ensures
     ∙ make-some g.N.Scalar.arithmetic c.args.vars c.args.rows.items c.in_ok-system.system.width c.in_ok-system.system.lines c.in_ok-system.ensures.width c.in_ok-system.ensures.list
-    c.in_ok-empty.empty c.in_ok-empty.ensures.calculus c.if-empty.false c.into_rows.result.items (c.into_rows.ensures ∙ c.in_ok-system.ensures.list)
+    c.in_ok-empty.empty c.in_ok-empty.ensures.calculus c.if-empty.false c.into_rows.result.items (c.into_rows.ensures.rows ∙ c.in_ok-system.ensures.list)
     c.in_ok-kept.kept.items c.in_ok-kept.ensures
 
 pub returns-clause-points : goal.returns-clause-points
@@ -61,6 +61,6 @@ returns-clause-points g c =
     let rows = c.args.rows.items in
     let some = ap (λ (s : PlainSystem). Some s.lines) c.of.ensures
     ∙ make-some a n rows c.in_ok-system.system.width c.in_ok-system.system.lines c.in_ok-system.ensures.width c.in_ok-system.ensures.list
-    c.in_ok-empty.empty c.in_ok-empty.ensures.calculus c.if-empty.false c.into_rows.result.items (c.into_rows.ensures ∙ c.in_ok-system.ensures.list)
+    c.in_ok-empty.empty c.in_ok-empty.ensures.calculus c.if-empty.false c.into_rows.result.items (c.into_rows.ensures.rows ∙ c.in_ok-system.ensures.list)
     c.in_ok-kept.kept.items c.in_ok-kept.ensures in
-    subst (IsMade n rows) (sym some) (make-exact a n rows g.met.N.Scalar.lawful c.requires)
+    subst (IsMade a n rows) (sym some) (make-exact a n rows g.met.N.Scalar.lawful c.requires)

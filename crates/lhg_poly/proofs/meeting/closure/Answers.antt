@@ -22,7 +22,7 @@ unreachable-requires g c =
     let rows = c.in_ok-rows.ensures ∙ ap (map relaxed) c.rows.ensures.rows in
     let is = ap (λ n. (make a n c.in_ok-rows.rows.items).value) c.vars.ensures ∙ ap (λ rs. (make a p.width rs).value) rows in
     let none : None ≡ (closure a p.width p.lines).value = sym (ap (option_map (λ (s : PlainSystem). s.lines)) c.in-None.is) ∙ c.in_ok-piece.ensures.calculus ∙ is in
-    subst (IsClosure p.width p.lines) (sym none) (closure-exact a p.width p.lines g.met.N.Scalar.lawful c.rows.ensures.poly.wide c.rows.ensures.poly.point)
+    subst (IsClosure a p.width p.lines) (sym none) (closure-exact a p.width p.lines g.met.N.Scalar.lawful c.rows.ensures.poly.wide c.rows.ensures.poly.point)
 
 pub returns-clause-points : goal.returns-clause-points
 returns-clause-points g c =
@@ -31,4 +31,4 @@ returns-clause-points g c =
     let rows = c.in_ok-rows.ensures ∙ ap (map relaxed) c.rows.ensures.rows in
     let is = ap (λ n. (make a n c.in_ok-rows.rows.items).value) c.vars.ensures ∙ ap (λ rs. (make a p.width rs).value) rows in
     let some : Some c.in-Some.piece.lines ≡ (closure a p.width p.lines).value = sym (ap (option_map (λ (s : PlainSystem). s.lines)) c.in-Some.is) ∙ c.in_ok-piece.ensures.calculus ∙ is in
-    subst (IsClosure p.width p.lines) (sym some) (closure-exact a p.width p.lines g.met.N.Scalar.lawful c.rows.ensures.poly.wide c.rows.ensures.poly.point)
+    subst (IsClosure a p.width p.lines) (sym some) (closure-exact a p.width p.lines g.met.N.Scalar.lawful c.rows.ensures.poly.wide c.rows.ensures.poly.point)

@@ -15,6 +15,6 @@ returns-clause-points g c =
     let q = c.args.q.now in
     let is = ap (λ n. make a n c.in_ok-rows.rows.items) c.vars.ensures ∙ ap (make a p.width) c.in_ok-rows.ensures.rows in
     let wide = all_split (λ r. length r.coefs ≡ p.width) p.lines q.lines c.in_ok-rows.ensures.wide in
-    rows_exact c.make.result (meet a p.width p.lines q.lines) (option_map (λ m. m.lines)) (IsMeet p.width p.lines q.lines)
+    rows_exact c.make.result (meet a p.width p.lines q.lines) (option_map (λ m. m.lines)) (IsMeet a p.width p.lines q.lines)
     (subst (λ m. IsHaltedByRows c.make.result m (option_map (λ t. t.lines))) is c.make.ensures.calculus)
     (meet-exact a p.width p.lines q.lines g.met.N.Scalar.lawful wide.0 wide.1)

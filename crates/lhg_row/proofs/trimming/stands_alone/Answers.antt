@@ -1,8 +1,15 @@
-use Rattle.std.proofs.Common.{◌∙◌, ap}
+use Rattle.std.proofs.Common.{◌∙◌, map, ap}
+use Rattle.std.specs.Ordering.{ordering_reverse}
+use Rattle.lhg_row.specs.Row.{row_with}
 use Rattle.lhg_row.specs.Constant.{stands_alone}
 use Rattle.lhg_row.specs.Kinds.{is_strict}
-use Rattle.lhg_row.proofs.TrimSteps.{less_alone}
+use Rattle.lhg_row.specs.Values.{fits_order}
+use Rattle.lhg_row.proofs.TrimSteps.{fits-alone}
 use Rattle.lhg_row.proofs.trimming.stands_alone.Goals as goal
 
-pub returns-in-Less : goal.returns-in-Less
-returns-in-Less g c = less_alone (is_strict c.row.inside.kind) (g.N.Scalar.meaning c.row.inside.bound) c.in-Less.ensures ∙ ap stands_alone c.row.view_is
+pub returns : goal.returns
+returns g c =
+    let m = g.N.Scalar.meaning in
+    let r = c.row.inside in
+    let strict = is_strict r.kind in
+    c.fits.ensures ∙ ap (fits_order strict) (c.reverse.ensures ∙ ap ordering_reverse c.sign.ensures) ∙ fits-alone (row_with (map m r.coefs.items) strict (m r.bound)) ∙ ap stands_alone c.row.view_is

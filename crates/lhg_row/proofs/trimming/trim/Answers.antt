@@ -4,10 +4,11 @@ use Rattle.lhg_num.specs.Marked.{each}
 use Rattle.lhg_num.specs.MarkedLaws.{IsPart}
 use Rattle.lhg_row.specs.Piece.{PlainPiece, in_piece}
 use Rattle.lhg_row.specs.System.{PlainSystem}
-use Rattle.lhg_row.specs.Width.{AllWide, IsTidy}
-use Rattle.lhg_row.specs.Trim.{row_limit, canon, settled, trim}
+use Rattle.lhg_row.specs.Width.{AllWide}
+use Rattle.lhg_row.specs.Trim.{row_limit, canon, settled, trim, IsTrimmed}
 use Rattle.lhg_row.specs.TrimLaws.{trim-holds}
-use Rattle.lhg_row.specs.WidthLaws.{canons-wide, trim-wide, trim-tidy}
+use Rattle.lhg_row.specs.TrimmedLaws.{trim-trimmed}
+use Rattle.lhg_row.specs.WidthLaws.{canons-wide, trim-wide}
 use Rattle.lhg_row.proofs.TrimSteps.{trim-long, trim-canons_part, trim-settled_rest}
 use Rattle.lhg_row.proofs.Steps.{rest_is_part, rows_on_wide}
 use Rattle.lhg_row.proofs.trimming.trim.Goals as goal
@@ -42,7 +43,7 @@ of-requires g c =
     let is : c.in_ok-kept.kept.items ≡ (trim a c.args.rows.items).value = c.in_ok-kept.ensures ∙ ap (λ rs. (settled a rs).value) c.in_ok-scaled.ensures ∙ (trim-settled_rest a c.args.rows.items).same in
     record {
       wide = subst (AllWide c.args.vars) (sym is) (trim-wide a c.args.vars c.args.rows.items laws c.requires);
-      tidy = subst IsTidy (sym is) (trim-tidy a c.args.rows.items);
+      trimmed = subst (IsTrimmed a) (sym is) (trim-trimmed a c.args.rows.items laws);
     }
 
 pub returns-clause-list : goal.returns-clause-list

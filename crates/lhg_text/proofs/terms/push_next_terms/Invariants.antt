@@ -1,5 +1,5 @@
 use Rattle.std.proofs.Common.{◌≡◌, ◌++◌, drop, map}
-use Rattle.lhg_row.specs.Members.{AllOf}
+use Rattle.lhg_math.specs.Tests.{AllOf}
 use Rattle.lhg_text.specs.RowText.{jump_names, next_terms, turned}
 use Rattle.lhg_text.specs.Short.{IsShort}
 use Rattle.lhg_text.proofs.terms.push_next_terms.Given as goal

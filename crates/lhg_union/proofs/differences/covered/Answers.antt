@@ -14,4 +14,4 @@ returns-clause-points g c = λ n v w.
     let left = c.in_ok-left.left in
     let none : is_nil (lines_of left.items) ≡ c.is_empty.result = nil_test left.items ∙ sym (ap (λ k. k == 0) left.ok.0) ∙ sym c.is_empty.ensures in
     subst (IsCovering n ps qs) none
-    (covering n ps qs (lines_of left.items) (polys_over n left.items (c.in_ok-left.ensures.vars n v w) c.in_ok-left.ensures.polys) (c.in_ok-left.ensures.points n v w))
+    (covering g.N.Scalar.arithmetic n ps qs (lines_of left.items) (polys_over g.N.Scalar.arithmetic n left.items (c.in_ok-left.ensures.vars n v w) c.in_ok-left.ensures.polys) (c.in_ok-left.ensures.points n v w))

@@ -32,7 +32,7 @@ loop-q-preserved g c = record {
   walking = λ n v w. walking-step g.N.Scalar.arithmetic n c.args.ps.now c.args.qs.now c.loop-q.left.items c.loop-q.q-index c.q-item.result c.q-item.is c.loop-q-test.true w (c.loop-q.invariant.walking n v w)
       c.in_ok-left-2.left.items c.in_ok-left-2.ensures.calculus c.in_ok-left-2.ensures.vars;
   first = c.loop-q.invariant.first;
-  second = all_take (λ p. IsPoly p.width p.lines) c.args.qs.now c.loop-q.q-index c.q-item.result c.q-item.is c.loop-q-test.true c.loop-q.invariant.second c.in_ok-left-2.ensures.poly;
+  second = all_take (λ p. IsPoly g.N.Scalar.arithmetic p.width p.lines) c.args.qs.now c.loop-q.q-index c.q-item.result c.q-item.is c.loop-q-test.true c.loop-q.invariant.second c.in_ok-left-2.ensures.poly;
 }
 
 pub returns-clause-calculus : goal.returns-clause-calculus
@@ -48,16 +48,16 @@ returns-clause-polys g c =
     let n = c.requires.vars in
     let walked = c.loop-q.invariant.walking n c.requires.first c.requires.second in
     let is = walking-end a n c.args.ps.now c.args.qs.now c.loop-q.left.items c.loop-q.q-index c.loop-q-test.false walked in
-    let second = all_taken (λ p. IsPoly p.width p.lines) c.args.qs.now c.loop-q.q-index c.loop-q-test.false c.loop-q.invariant.second in
-    let others = polys-over n (lines_of c.args.qs.now) (polys_over n c.args.qs.now c.requires.second second) in
-    polys_back n c.loop-q.left.items walked.vars
-    (subst (AllPolys n) (sym is) (minus-polys a n (lines_of c.args.ps.now) (lines_of c.args.qs.now) g.met.N.Scalar.lawful (polys_over n c.args.ps.now c.requires.first c.loop-q.invariant.first) others))
+    let second = all_taken (λ p. IsPoly g.N.Scalar.arithmetic p.width p.lines) c.args.qs.now c.loop-q.q-index c.loop-q-test.false c.loop-q.invariant.second in
+    let others = polys-over g.N.Scalar.arithmetic n (lines_of c.args.qs.now) (polys_over g.N.Scalar.arithmetic n c.args.qs.now c.requires.second second) in
+    polys_back g.N.Scalar.arithmetic n c.loop-q.left.items walked.vars
+    (subst (AllPolys g.N.Scalar.arithmetic n) (sym is) (minus-polys a n (lines_of c.args.ps.now) (lines_of c.args.qs.now) g.met.N.Scalar.lawful (polys_over g.N.Scalar.arithmetic n c.args.ps.now c.requires.first c.loop-q.invariant.first) others))
 
 pub returns-clause-points : goal.returns-clause-points
 returns-clause-points g c = λ n v w.
     let a = g.N.Scalar.arithmetic in
     let is = walking-end a n c.args.ps.now c.args.qs.now c.loop-q.left.items c.loop-q.q-index c.loop-q-test.false (c.loop-q.invariant.walking n v w) in
-    let second = all_taken (λ p. IsPoly p.width p.lines) c.args.qs.now c.loop-q.q-index c.loop-q-test.false c.loop-q.invariant.second in
-    let ours = polys-over n (lines_of c.args.ps.now) (polys_over n c.args.ps.now v c.loop-q.invariant.first) in
-    let others = polys-over n (lines_of c.args.qs.now) (polys_over n c.args.qs.now w second) in
+    let second = all_taken (λ p. IsPoly g.N.Scalar.arithmetic p.width p.lines) c.args.qs.now c.loop-q.q-index c.loop-q-test.false c.loop-q.invariant.second in
+    let ours = polys-over g.N.Scalar.arithmetic n (lines_of c.args.ps.now) (polys_over g.N.Scalar.arithmetic n c.args.ps.now v c.loop-q.invariant.first) in
+    let others = polys-over g.N.Scalar.arithmetic n (lines_of c.args.qs.now) (polys_over g.N.Scalar.arithmetic n c.args.qs.now w second) in
     subst (IsDifference n (lines_of c.args.ps.now) (lines_of c.args.qs.now)) (sym is) (minus-exact a n (lines_of c.args.ps.now) (lines_of c.args.qs.now) g.met.N.Scalar.lawful ours others)

@@ -6,6 +6,6 @@ use Rattle.lhg_union.proofs.differences.minus.Given as goal
 abbrev pub invariant-loop-q : goal.invariant-loop-q
 invariant-loop-q g l = record {
   walking : (n : ℕ) → AllVars n l.ps → AllVars n l.qs → IsWalking g.N.Scalar.arithmetic n l.ps l.qs l.left.items l.q-index;
-  first : ArePolys l.ps;
-  second : ArePolys (take l.q-index l.qs);
+  first : ArePolys g.N.Scalar.arithmetic l.ps;
+  second : ArePolys g.N.Scalar.arithmetic (take l.q-index l.qs);
 }

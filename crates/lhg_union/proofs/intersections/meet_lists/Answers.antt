@@ -32,7 +32,7 @@ pub loop-p-preserved : goal.loop-p-preserved
 loop-p-preserved g c = record {
   gathering = λ n v w. gathering-step g.N.Scalar.arithmetic n c.args.ps.now c.args.qs.now c.loop-p.out.items c.loop-p.p-index c.p-item.result c.p-item.is c.loop-p-test.true v (c.loop-p.invariant.gathering n v w)
       c.in_ok-met.met.items c.gather.new.out.items c.in_ok-met.ensures.calculus c.in_ok-met.ensures.vars c.in_ok-gather.ensures.items;
-  first = all_take (λ p. IsPoly p.width p.lines) c.args.ps.now c.loop-p.p-index c.p-item.result c.p-item.is c.loop-p-test.true c.loop-p.invariant.first c.in_ok-met.ensures.poly;
+  first = all_take (λ p. IsPoly g.N.Scalar.arithmetic p.width p.lines) c.args.ps.now c.loop-p.p-index c.p-item.result c.p-item.is c.loop-p-test.true c.loop-p.invariant.first c.in_ok-met.ensures.poly;
   second = λ _. c.in_ok-met.ensures.polys;
 }
 

@@ -6,6 +6,6 @@ use Rattle.lhg_union.proofs.intersections.meet_lists.Given as goal
 abbrev pub invariant-loop-p : goal.invariant-loop-p
 invariant-loop-p g l = record {
   gathering : (n : ℕ) → AllVars n l.ps → AllVars n l.qs → IsGathering g.N.Scalar.arithmetic n l.ps l.qs l.out.items l.p-index;
-  first : ArePolys (take l.p-index l.ps);
-  second : 0 < l.p-index → ArePolys l.qs;
+  first : ArePolys g.N.Scalar.arithmetic (take l.p-index l.ps);
+  second : 0 < l.p-index → ArePolys g.N.Scalar.arithmetic l.qs;
 }

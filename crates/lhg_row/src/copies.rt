@@ -3,11 +3,11 @@ ghost use Rattle.std.specs.Prelude.{◌++◌};
 ghost use Rattle.lhg_num.specs.Marked.{done};
 ghost use Rattle.lhg_num.specs.Halting.{IsHaltedByMemory};
 
+use crate::rows::Row;
 use lhg_num::{Halt, Scalar};
-use lhg_row::Row;
 use std::alloc::Global;
 
-/// A copy of the row.
+/// A copy of the row. It halts for `Memory` alone.
 pub fn copy_row<N: Scalar>(alloc: Global, row: &Row<N>) -> Result<Row<N>, Halt>
     ensures { IsHaltedByMemory result (done row.now) (λ r. r) }
 {
@@ -18,7 +18,7 @@ pub fn copy_row<N: Scalar>(alloc: Global, row: &Row<N>) -> Result<Row<N>, Halt>
     })
 }
 
-/// A copy of the rows.
+/// A copy of the rows. It halts for `Memory` alone.
 pub fn copy_rows<N: Scalar>(alloc: Global, rows: &[Row<N>]) -> Result<Vec<Row<N>>, Halt>
     ensures { IsHaltedByMemory result (done rows.now) (λ v. v.items) }
 {
@@ -27,8 +27,8 @@ pub fn copy_rows<N: Scalar>(alloc: Global, rows: &[Row<N>]) -> Result<Vec<Row<N>
     Ok(out)
 }
 
-/// Puts copies of the rows at the end of the list.
-pub(crate) fn append_rows<N: Scalar>(
+/// Puts copies of the rows at the end of the list. It halts for `Memory` alone.
+pub fn append_rows<N: Scalar>(
     alloc: Global,
     out: &mut Vec<Row<N>>,
     rows: &[Row<N>],

@@ -4,8 +4,7 @@ use Rattle.lhg_num.specs.Arithmetic.{Arithmetic}
 use Rattle.lhg_num.specs.Marked.{Marked, and_then, IsRest}
 use Rattle.lhg_num.specs.MarkedLaws.{IsPart}
 use Rattle.lhg_row.specs.Piece.{PlainPiece}
-use Rattle.lhg_row.specs.Eliminate.{eliminate}
-use Rattle.lhg_row.specs.Pieces.{eliminate_last}
+use Rattle.lhg_row.specs.Eliminate.{eliminate, eliminate_last}
 use Rattle.lhg_row.proofs.Steps.{rest_step, step_part}
 
 module _ (a : Arithmetic) (keep n k : ℕ) (rows : PlainPiece) (k_is : k ≡ n - 1) (more : keep < n) (whole : Marked PlainPiece) (r : IsRest whole (eliminate_last a keep (n - keep) rows)) where

@@ -1,7 +1,7 @@
 use Rattle.std.proofs.Common.{◌≤◌, ◌-◌}
 use Rattle.lhg_num.specs.Marked.{IsRest}
-use Rattle.lhg_row.specs.Pieces.{eliminate_last}
-use Rattle.lhg_poly.proofs.projecting.first_rows.Given as goal
+use Rattle.lhg_row.specs.Eliminate.{eliminate_last}
+use Rattle.lhg_elim.proofs.elimination.eliminate_last.Given as goal
 
 abbrev pub invariant-later : goal.invariant-later
 invariant-later g l =
