@@ -16,7 +16,7 @@ ghost use Rattle.lhg_union.specs.Regions.{plain_region};
 use lhg_num::{Frac, Halt};
 use lhg_plant::{Location, Plant};
 use lhg_poly::{Poly, make};
-use lhg_row::{Row, copy_rows};
+use lhg_row::{Row, append_rows, copy_rows};
 use lhg_union::{Region, push_some};
 use std::alloc::Global;
 
@@ -63,8 +63,7 @@ fn push_safe(
     ensures vars { OnOk result (AllVars vars pieces.new.items) }
 {
     let mut rows = copy_rows(alloc, inv)?;
-    let mut more = copy_rows(alloc, line)?;
-    rows.append(&mut more)?;
+    append_rows(alloc, &mut rows, line)?;
     let piece = make(alloc, vars, rows)?;
     push_some(pieces, piece)
 }

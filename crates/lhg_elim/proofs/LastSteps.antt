@@ -2,10 +2,9 @@
 use Rattle.std.proofs.Common.{◌≡◌, ℕ, suc, ◌+◌, ◌-◌, ◌<◌, subst, arith}
 use Rattle.lhg_num.specs.Arithmetic.{Arithmetic}
 use Rattle.lhg_num.specs.Marked.{Marked, and_then, IsRest}
-use Rattle.lhg_num.specs.MarkedLaws.{IsPart}
 use Rattle.lhg_row.specs.Piece.{PlainPiece}
 use Rattle.lhg_row.specs.Eliminate.{eliminate, eliminate_last}
-use Rattle.lhg_row.proofs.Steps.{rest_step, step_part}
+use Rattle.lhg_row.proofs.Steps.{rest_step}
 
 module _ (a : Arithmetic) (keep n k : ℕ) (rows : PlainPiece) (k_is : k ≡ n - 1) (more : keep < n) (whole : Marked PlainPiece) (r : IsRest whole (eliminate_last a keep (n - keep) rows)) where
   here : IsRest whole (and_then (eliminate a k rows) (eliminate_last a keep (k - keep)))
@@ -13,10 +12,6 @@ module _ (a : Arithmetic) (keep n k : ℕ) (rows : PlainPiece) (k_is : k ≡ n -
       let many : n - keep ≡ suc (k - keep) = omega arith in
       let last : keep + (k - keep) ≡ k = omega arith in
       subst (λ j. IsRest whole (and_then (eliminate a j rows) (eliminate_last a keep (k - keep)))) last (subst (λ j. IsRest whole (eliminate_last a keep j rows)) many r)
-
-  -- the marks of the next elimination
-  pub last-part : IsPart whole (eliminate a k rows)
-  last-part = step_part whole (eliminate a k rows) (eliminate_last a keep (k - keep)) here
 
   -- one variable less is left
   pub last-step : (m : ℕ) (left : PlainPiece) → suc m ≡ n → left ≡ (eliminate a k rows).value → IsRest whole (eliminate_last a keep (m - keep) left)

@@ -1,4 +1,4 @@
-// Elimination of one variable from a list of rows, and whether a list has a point.
+// Elimination of one variable from a list of rows, of all later ones, and whether a list has a point.
 //
 // A row over variable k is, at fixed values of the other variables, an upper or a lower bound on k. Some value of k lies
 // between all lower and all upper bounds exactly where each lower bound fits each upper one, since between two different

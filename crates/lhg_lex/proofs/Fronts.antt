@@ -1,5 +1,5 @@
 -- The longest front of a list that passes a test.
-use Rattle.std.proofs.Common.{◌≡◌, ◌<◌, ◌≤◌, ◌+◌, ℕ, zero, suc, List, [], ◌∷◌, ◌++◌, length, take, refl, Bool, true, false, cond, arith, ◌&&◌}
+use Rattle.std.proofs.Common.{◌≡◌, ◌<◌, ◌≤◌, ◌+◌, ℕ, zero, suc, List, [], ◌∷◌, length, take, refl, Bool, true, false, cond, arith}
 use Rattle.lhg_math.specs.Tests.{by_bool}
 use Rattle.std.specs.List.{list_all, prefix_len}
 

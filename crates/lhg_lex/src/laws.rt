@@ -23,7 +23,7 @@ pub fn law_text()
     ensures next { NextLaws }
 {}
 
-/// The constant is the limit of the definitions.
+/// `TEXT_LIMIT`, the longest text that is read, is the limit of the definitions.
 pub fn law_limit()
     ensures { TEXT_LIMIT ≡ most_bytes }
 {}

@@ -64,3 +64,10 @@ scaled_multiple a row laws =
     by_bool (all_of a.holds row)
     (λ e. rw e (laws.multiple row e))
     (λ e. rw e (multiple_self row))
+
+-- a row that was scaled is not changed again
+pub scaled-scaled : (a : Arithmetic) (xs : List Number) → IsLawful a → scaled a (scaled a xs) ≡ scaled a xs
+scaled-scaled a xs laws =
+    by_bool (all_of a.holds xs)
+    (λ e. let k = laws.canon_held xs e in rw e (scaled-held a (a.canon_of xs) k ∙ laws.same xs (a.canon_of xs) e k (laws.multiple xs e)))
+    (λ e. let s : scaled a xs ≡ xs = rw e refl in ap (scaled a) s)

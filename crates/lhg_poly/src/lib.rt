@@ -1,4 +1,4 @@
-// Pieces: trimmed lists of rows with a point, of which no row follows from the others, and what is made of them.
+// Pieces: trimmed lists of rows that have a point, none of which follows from the others, and what is made of them.
 #![tactic(auto)]
 
 mod entailing;

@@ -14,7 +14,8 @@ use lhg_num::{Halt, Scalar};
 use lhg_row::{Row, append_rows, trim};
 use std::alloc::Global;
 
-/// The piece of the rows, each over `vars` variables, and none where they have no common point.
+/// The piece of the rows, each over `vars` variables: their trimmed list without the rows that the others entail. It is none where they
+/// have no common point.
 /// It halts for `Wide` only where the type refuses an operation of the calculus of this call,
 /// for `Rows` only where it has a list past `ROW_LIMIT`, and for `Memory`.
 pub fn make<N: Scalar>(

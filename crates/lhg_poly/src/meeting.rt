@@ -40,7 +40,7 @@ pub fn are_apart<N: Scalar>(alloc: Global, p: &Poly<N>, q: &Poly<N>) -> Result<b
     have_no_point(alloc, p.vars(), rows)
 }
 
-/// The points at which all relaxed rows hold.
+/// The points at which all relaxed rows hold, as a piece over the same variables. There is always one, since the points of p are among them.
 /// It halts for `Wide` only where the type refuses an operation of the calculus of this call,
 /// for `Rows` only where it has a list past `ROW_LIMIT`, and for `Memory`.
 pub fn closure<N: Scalar>(alloc: Global, p: &Poly<N>) -> Result<Poly<N>, Halt>

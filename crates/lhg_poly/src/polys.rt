@@ -7,11 +7,11 @@ ghost use Rattle.lhg_row.specs.PieceFacts.{IsPoly};
 ghost use Rattle.lhg_row.specs.Truths as calculus;
 
 use lhg_num::{Halt, Scalar, Wide};
-use lhg_row::{Point, Row, System, all_hold, copy_rows};
+use lhg_row::{Point, Row, System, all_hold};
 use std::alloc::Global;
 use std::marker::Model;
 
-/// A trimmed list of rows with at least one point, of which no row follows from the others.
+/// A trimmed list of rows that have at least one point, each of which fails at some point of the others.
 #[derive(Drop)]
 pub struct Poly<N: Scalar> {
     system: System<N>,
@@ -59,8 +59,9 @@ impl<N: Scalar> Poly<N> {
         ensures copy { IsHaltedByMemory result (done self.now) (λ p. p) }
         ensures poly { IsPoly N.arithmetic self.now.width self.now.lines }
     {
-        let rows = copy_rows(alloc, self.system.rows())?;
-        Ok(Poly::of(self.system.vars(), rows))
+        Ok(Poly {
+            system: self.system.copy(alloc)?,
+        })
     }
 
     /// Whether the point, with one coordinate per variable, is in the piece. It answers `Wide` only where whether one of its rows holds at the point is so answered.

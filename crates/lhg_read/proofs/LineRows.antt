@@ -34,7 +34,7 @@ use Rattle.lhg_read.specs.declared.terms.Term.{Term}
 use Rattle.lhg_read.proofs.Answered.{both_joined}
 use Rattle.lhg_read.proofs.Collecting.{IsSound}
 use Rattle.lhg_read.proofs.PairRows.{some_variable}
-use Rattle.lhg_read.proofs.PairSteps.{Of, sum_sound, all_opposite, all_joined, unit_sound}
+use Rattle.lhg_read.proofs.PairSteps.{Of, sum_sound, all_opposite, unit_sound}
 use Rattle.lhg_row.specs.Members.{all-append}
 
 -- n coefficients, of which one is not 0
@@ -148,7 +148,7 @@ pair_full n op a b rows h k e =
     let c = cond_some (is_proper n terms) (rows_by op (λ strict. row_of n strict terms)) rows e in
     let proper = and_parts _ _ c.0 in
     let some = and_parts _ _ proper.1 in
-    subst (λ r. AllOf (IsFull n) r) c.1 (by_full n op (λ strict. row_of n strict terms) (row_full n terms (all_joined n a (map opposite b) h (all_opposite n b k)) some.1))
+    subst (λ r. AllOf (IsFull n) r) c.1 (by_full n op (λ strict. row_of n strict terms) (row_full n terms (all-append (IsSound n) a (map opposite b) h (all_opposite n b k)) some.1))
 
 -- ---- constraints
 

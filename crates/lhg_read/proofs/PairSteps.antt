@@ -25,6 +25,7 @@ use Rattle.lhg_read.specs.declared.terms.Term.{Term}
 use Rattle.lhg_read.specs.declared.terms.Term.TheVariants.{Times, Alone}
 use Rattle.lhg_read.proofs.Collecting.{IsSound}
 use Rattle.lhg_read.proofs.PairRows.{pair_collected}
+use Rattle.lhg_row.specs.Members.{all-append}
 
 -- ---- terms are sound
 
@@ -114,10 +115,6 @@ pub all_opposite : (n : ℕ) (ts : List Term) → AllOf (IsSound n) ts → AllOf
 all_opposite n [] h = tt
 all_opposite n (t ∷ ts) h = (opposite_sound n t h.0, all_opposite n ts h.1)
 
-pub all_joined : (n : ℕ) (xs ys : List Term) → AllOf (IsSound n) xs → AllOf (IsSound n) ys → AllOf (IsSound n) (xs ++ ys)
-all_joined n [] ys h k = k
-all_joined n (x ∷ xs) ys h k = (h.0, all_joined n xs ys h.1 k)
-
 map_plain : (ts : List Term) → map (signed false) ts ≡ ts
 map_plain [] = refl
 map_plain (t ∷ ts) = ap (λ us. t ∷ us) (map_plain ts)
@@ -144,7 +141,7 @@ sums_in_turn n op (Some xs) None h k = none (with_terms (none_of n) (map (signed
     none None = refl
     none (Some d) = refl
 sums_in_turn n op (Some xs) (Some ys) h k =
-    pair_collected n op xs ys (all_joined n xs (map opposite ys) h (all_opposite n ys k))
+    pair_collected n op xs ys (all-append (IsSound n) xs (map opposite ys) h (all_opposite n ys k))
     ∙ ap (option_and_then (rows_from op)) (with_terms-append (none_of n) xs (map opposite ys) ∙ ap (λ zs. option_and_then (λ d. with_terms d (map opposite ys)) (with_terms (none_of n) zs)) (sym (map_plain xs)))
 
 -- so a pair is read

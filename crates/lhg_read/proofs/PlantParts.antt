@@ -3,7 +3,6 @@ use Rattle.std.proofs.Common.{◌≡◌, ℕ, List, [], ◌∷◌, ◌++◌, len
 use Rattle.std.specs.Option.{option_and_then, option_map}
 use Rattle.std.proofs.lemmas.List.{map-append}
 use Rattle.lhg_row.specs.Piece.{PlainPiece}
-use Rattle.lhg_math.specs.Tests.{AllOf}
 use Rattle.lhg_plant.specs.Plant.{PlainLocation, PlainSwitch}
 use Rattle.lhg_plant.specs.Still.{still_rows}
 use Rattle.lhg_read.specs.Term.{place_of}
@@ -30,10 +29,6 @@ not_nil (y ∷ xs) x = refl
 pub nil_is : {A : Type 0} (xs : List A) → is_nil xs ≡ true → xs ≡ []
 nil_is [] e = refl
 nil_is (x ∷ xs) e = absurd cc
-
-pub all_push : {A : Type 0} (P : A → Type 0) (xs : List A) (x : A) → AllOf P xs → P x → AllOf P (xs ++ x ∷ [])
-all_push P [] x h p = (p, tt)
-all_push P (y ∷ xs) x h p = (h.0, all_push P xs x h.1 p)
 
 -- ---- one line more in a block
 

@@ -14,7 +14,8 @@ use Rattle.lhg_read.specs.PlantLine.{BlockLine, inv, flow, safe, WrittenSwitch, 
 use Rattle.lhg_read.specs.PlantText.{Block, invs_of, flows_of, safes_of, IsBlock, location_of, switch_at, block_lines, plant_lines}
 use Rattle.lhg_read.specs.PlantSteps.{PlainDraft, empty_draft, is_nil, with_last, safe_lines, loc_names, switch_names, is_open, begun, with_inv, with_flow, with_safe, may_begin, may_switch}
 use Rattle.lhg_read.proofs.VariableSteps.{differ_more}
-use Rattle.lhg_read.proofs.PlantParts.{with_last-append, safe_lines-append, nil_is, all_push, and_line, block_lines-more, invs-append, flows-append, safes-append, inv_more, flow_more, safe_more, names_of_blocks, names_of_switches}
+use Rattle.lhg_read.proofs.PlantParts.{with_last-append, safe_lines-append, nil_is, and_line, block_lines-more, invs-append, flows-append, safes-append, inv_more, flow_more, safe_more, names_of_blocks, names_of_switches}
+use Rattle.lhg_row.specs.Members.{all-append}
 
 -- the names of the locations so far
 abbrev pub names_so_far : List Block → Block → List (List ℕ)
@@ -114,7 +115,7 @@ module _ (n : ℕ) (lines : List PlantLine) (d : PlainDraft) where
           written = [];
           lines_are = ap (λ ls. ls ++ loc name ∷ []) whole;
           locs_are = ap (λ ls. ls ++ begun n name ∷ []) (s.locs_are ∙ sym (map-append (location_of n) s.closed (s.last ∷ [])));
-          each = all_push IsBlock s.closed s.last s.each s.going_on;
+          each = all-append IsBlock s.closed (s.last ∷ []) s.each (s.going_on, tt);
           going_on = fresh_block name;
           inv_flag = refl;
           flow_flag = refl;
@@ -274,7 +275,7 @@ module _ (n : ℕ) (lines : List PlantLine) (d : PlainDraft) where
               ∙ append_assoc (front ++ block_lines s.last) (map (λ w. switch w) s.written) (end ∷ [])
               ∙ ap (λ ls. ls ++ (map (λ w. switch w) s.written ++ end ∷ [])) (sym all);
           locs_are = s.locs_are ∙ sym (map-append (location_of n) s.closed (s.last ∷ []));
-          each = all_push IsBlock s.closed s.last s.each s.going_on;
+          each = all-append IsBlock s.closed (s.last ∷ []) s.each (s.going_on, tt);
           some = omega (arith, count);
           few = let f = s.few in omega (arith, count, f);
           differ = ap all_differ names ∙ s.differ;

@@ -6,7 +6,7 @@ use Rattle.lhg_lex.proofs.FirstBadProofs.{none_bad, one_bad}
 use Rattle.lhg_plant.specs.Plant.{PlainPlant}
 use Rattle.lhg_plant.specs.State.{PlainState}
 use Rattle.lhg_read.specs.Names.{vars_of}
-use Rattle.lhg_read.specs.PlantText.{said_in, IsPlant, IsSomePlant}
+use Rattle.lhg_read.specs.PlantText.{said_in, IsPlant, IsSomePlantText}
 use Rattle.lhg_read.specs.PlantSteps.{empty_draft, all_taken, plant_with}
 use Rattle.lhg_read.specs.StateText.{state_line, IsStateText, IsSomeState}
 use Rattle.lhg_read.specs.TextLaws.{TextLaws}
@@ -42,8 +42,8 @@ text_laws = record {
       one_plant u.tokens p q (subst (λ ts. IsPlant ts p) (same_tokens (λ ts. IsPlant ts p) (λ ts. IsPlant ts q) lines t u) t.is) u.is;
   state = λ p lines s r t u.
       one_state p u.tokens s r (subst (λ ts. IsStateText p ts s) (same_tokens (λ ts. IsStateText p ts s) (λ ts. IsStateText p ts r) lines t u) t.is) u.is;
-  no_bad_line = none_bad (IsTextBy IsSomePlant);
-  one_bad_line = one_bad (IsTextBy IsSomePlant);
+  no_bad_line = none_bad IsSomePlantText;
+  one_bad_line = one_bad IsSomePlantText;
   no_bad_state = λ p. none_bad (IsTextBy (IsSomeState p));
   one_bad_state = λ p. one_bad (IsTextBy (IsSomeState p));
 }

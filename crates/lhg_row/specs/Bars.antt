@@ -10,6 +10,7 @@ use Rattle.lhg_math.specs.Signs.{is_nought}
 use Rattle.lhg_math.specs.SignLaws.{nought_is}
 use Rattle.lhg_math.specs.Tests.{Every, all_of, all_from_every, by_bool}
 use Rattle.lhg_math.specs.Bounds.{Bound, under, over, fits, some_between, fits_of_between}
+use Rattle.lhg_row.specs.Members.{all-filter}
 
 -- coef * v is at most the slack, or below it where strict: a row at fixed values of the other variables
 pub record Bar : Type 0 where
@@ -94,11 +95,6 @@ pub filter_every : {A : Type 0} (p : A → Bool) (xs : List A) → Every p (filt
 filter_every p [] = tt
 filter_every p (x ∷ xs) = by_bool (p x) (λ e. rw e (e, filter_every p xs)) (λ e. rw e (filter_every p xs))
 
--- and each other test that all members pass
-pub every_filter : {A : Type 0} (p f : A → Bool) (xs : List A) → Every f xs → Every f (filter p xs)
-every_filter p f [] h = tt
-every_filter p f (x ∷ xs) h = by_bool (p x) (λ e. rw e (h.0, every_filter p f xs h.1)) (λ e. rw e (every_filter p f xs h.1))
-
 -- a change of test on members that pass p
 pub every_same : {A : Type 0} (p f g : A → Bool) (xs : List A) → ((x : A) → p x ≡ true → f x ≡ g x) → Every p xs → Every f xs → Every g xs
 every_same p f g [] e k h = tt
@@ -182,6 +178,6 @@ pairs_stand (u ∷ us) ls v p q h k = (all_from_every (λ l. stands (comb_bar u 
 -- and where some value meets all constraints, all that say nothing of the variable stand, and all combinations
 pub value_is_eliminated : (bs : List Bar) (v : Number) → Every (λ b. meets b v) bs → AreEliminated bs
 value_is_eliminated bs v h = record {
-  levels = every_same is_level (λ b. meets b v) stands (filter is_level bs) (λ b e. level_meets b v e) (filter_every is_level bs) (every_filter is_level (λ b. meets b v) bs h);
-  pairs = pairs_stand (filter is_upper bs) (filter is_lower bs) v (filter_every is_upper bs) (filter_every is_lower bs) (every_filter is_upper (λ b. meets b v) bs h) (every_filter is_lower (λ b. meets b v) bs h);
+  levels = every_same is_level (λ b. meets b v) stands (filter is_level bs) (λ b e. level_meets b v e) (filter_every is_level bs) (all-filter (λ b. meets b v ≡ true) is_level bs h);
+  pairs = pairs_stand (filter is_upper bs) (filter is_lower bs) v (filter_every is_upper bs) (filter_every is_lower bs) (all-filter (λ b. meets b v ≡ true) is_upper bs h) (all-filter (λ b. meets b v ≡ true) is_lower bs h);
 }

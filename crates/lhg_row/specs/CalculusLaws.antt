@@ -1,18 +1,18 @@
 -- Which laws do the operations on rows and on lists of rows obey?
-use Rattle.std.specs.Prelude.{◌≡◌, ◌≢◌, ℕ, suc, ◌<◌, not, List, length, remove, All, AllPairs}
+use Rattle.std.specs.Prelude.{◌≡◌, ◌≢◌, ℕ, suc, ◌<◌, not, List, length, remove, All, AllPairs, ◌+◌}
 use Rattle.lhg_math.specs.Number.{Number}
 use Rattle.lhg_num.specs.Arithmetic.{Arithmetic, IsLawful}
 use Rattle.lhg_row.specs.Row.{PlainRow, PlainPoint, holds_at}
 use Rattle.lhg_row.specs.Piece.{PlainPiece, in_piece}
 use Rattle.lhg_row.specs.Values.{truth, shift}
 use Rattle.lhg_row.specs.Moves.{negated, moved, renamed, picked}
-use Rattle.lhg_row.specs.Trim.{trim, IsTrimmed}
+use Rattle.lhg_row.specs.Trim.{trim, IsTrimmed, IsSettledOrNothing}
 use Rattle.lhg_row.specs.Width.{AllWide, IsTidy}
 use Rattle.lhg_row.specs.Column.{coef_at}
 use Rattle.lhg_row.specs.Combine.{comb}
 use Rattle.lhg_row.specs.Combination.{AreOpposed, IsCombination}
-use Rattle.lhg_row.specs.Eliminate.{eliminate, is_empty}
-use Rattle.lhg_row.specs.HasValue.{IsElimination, IsEmptiness}
+use Rattle.lhg_row.specs.Eliminate.{eliminate, eliminate_last, is_empty}
+use Rattle.lhg_row.specs.HasValue.{IsElimination, IsLastElimination, IsEmptiness}
 use Rattle.lhg_row.specs.NothingLaws.{eliminated}
 
 -- the truth that is formed is the truth, and each operation on one row gives the points that it should
@@ -24,12 +24,14 @@ pub record RowLaws : Type 0 where
   pub rename : (places : List ℕ) (n : ℕ) (r : PlainRow) (x : PlainPoint) → length places ≡ length r.coefs → All (λ p. p < n) places → AllPairs (λ p q. p ≢ q) places
       → length x ≡ n → holds_at (renamed places n r) x ≡ holds_at r (picked places x)
 
--- trim keeps the points and the width, and leaves a tidy list that it gives back; and a part of such a list is one
+-- trim keeps the points and the width, and leaves a tidy list that is its own trim; a list that is its own trim is 0 < 0 alone, or
+-- its rows are scaled, have a variable and are of different directions; and it stays its own trim without one of its rows
 pub record TrimLaws : Type 0 where
   pub points : (a : Arithmetic) (rows : PlainPiece) (x : PlainPoint) → IsLawful a → in_piece (trim a rows).value x ≡ in_piece rows x
   pub wide : (a : Arithmetic) (n : ℕ) (rows : PlainPiece) → IsLawful a → AllWide n rows → AllWide n (trim a rows).value
   pub tidy : (a : Arithmetic) (rows : PlainPiece) → IsTidy (trim a rows).value
   pub trimmed : (a : Arithmetic) (rows : PlainPiece) → IsLawful a → IsTrimmed a (trim a rows).value
+  pub settled : (a : Arithmetic) (rows : PlainPiece) → IsLawful a → IsTrimmed a rows → IsSettledOrNothing a rows
   pub part : (a : Arithmetic) (rows : PlainPiece) (i : ℕ) → IsLawful a → i < length rows → IsTrimmed a rows → IsTrimmed a (remove rows i)
 
 -- the combination of two rows with opposite signs at a variable says what some value of the variable would say
@@ -37,11 +39,12 @@ abbrev pub CombLaw : Type 0
 CombLaw = (a : Arithmetic) (k : ℕ) (r s : PlainRow) → length r.coefs ≡ length s.coefs → k < length r.coefs → AreOpposed (coef_at k r) (coef_at k s)
     → IsCombination k r s (comb a r s k).value
 
--- eliminate is exact and leaves a tidy list over one variable less; its first step is no exception
+-- eliminate is exact and leaves a tidy list over one variable less; its first step is no exception; all later variables are eliminated exactly
 pub record EliminateLaws : Type 0 where
   pub exact : (a : Arithmetic) (k n : ℕ) (rows : PlainPiece) → IsLawful a → k < n → AllWide n rows → IsElimination n k rows (eliminate a k rows).value
   pub wide : (a : Arithmetic) (k m : ℕ) (rows : PlainPiece) → IsLawful a → k < suc m → AllWide (suc m) rows → AllWide m (eliminate a k rows).value
   pub tidy : (a : Arithmetic) (k m : ℕ) (rows : PlainPiece) → k < suc m → AllWide (suc m) rows → IsTidy (eliminate a k rows).value
+  pub last : (a : Arithmetic) (kept count n : ℕ) (rows : PlainPiece) → IsLawful a → n ≡ kept + count → AllWide n rows → IsLastElimination kept count rows (eliminate_last a kept count rows).value
   pub nothing : (a : Arithmetic) (k m : ℕ) (rows : PlainPiece) → k < suc m → AllWide (suc m) rows → eliminate a k rows ≡ eliminated a k rows
 
 -- is_empty is exact on tidy lists

@@ -1,4 +1,4 @@
--- Why have the pieces that minus leaves a point each, and why does covered tell exactly whether a list lies in another?
+-- Why are the lists of rows that minus leaves pieces, and why does covered tell exactly whether a list lies in another?
 use Rattle.std.specs.Prelude.{◌≡◌, ℕ, Bool, true, false, not, ◌||◌, ◌&&◌, List, [], ◌∷◌, ◌++◌, Option, Some, None}
 use Rattle.std.proofs.Common.{refl, sym, ap, ◌∙◌}
 use Rattle.std.proofs.lemmas.Bool.{and_parts, not-true}
@@ -18,7 +18,7 @@ use Rattle.lhg_row.specs.MakeLaws.{make-exact}
 use Rattle.lhg_row.specs.MinusLaws.{minus-exact}
 use Rattle.lhg_row.specs.Members.{all-append}
 
--- a piece that is made and then a list of pieces with points have points
+-- what is made, before a list of pieces, is a list of pieces
 pub listed-polys : (a : Arithmetic) (n : ℕ) (rows : PlainPiece) (o : Option PlainPiece) (ps : List PlainPiece) → IsMade a n rows o → AllPolys a n ps → AllPolys a n (listed o ps)
 listed-polys a n rows None ps h k = k
 listed-polys a n rows (Some p) ps h k = (h.poly, k)
@@ -48,12 +48,12 @@ module _ (a : Arithmetic) (n : ℕ) (laws : IsLawful a) where
   walk-polys ps [] h w = h
   walk-polys ps (q ∷ qs) h w = walk-polys (minus_one a n ps q).value qs (minus_one-polys ps q h w.0) w.1
 
--- the pieces that minus leaves of pieces with points have points
+-- what minus leaves of pieces are pieces
 pub minus-polys : (a : Arithmetic) (n : ℕ) (ps qs : List PlainPiece) → IsLawful a → AllPolys a n ps → AllOver n qs → AllPolys a n (minus a n ps qs).value
 unfolding minus
 minus-polys a n ps qs laws h w = walk-polys a n laws ps qs h w
 
--- pieces with points are over n variables
+-- pieces are over n variables
 pub polys-over : (a : Arithmetic) (n : ℕ) (ps : List PlainPiece) → AllPolys a n ps → AllOver n ps
 polys-over a n [] h = tt
 polys-over a n (p ∷ ps) h = (h.0.wide, polys-over a n ps h.1)
@@ -63,7 +63,7 @@ none_left b true e h = refl
 none_left true false e h = false_true e
 none_left false false e h = h
 
--- a list of pieces with points has a member where something is left, and else nothing is
+-- a list of pieces has a member where some point is left, and else none is
 pub covering : (a : Arithmetic) (n : ℕ) (ps qs rest : List PlainPiece) → AllPolys a n rest → IsDifference n ps qs rest → IsCovering n ps qs (is_nil rest)
 covering a n ps qs [] h f = λ x l i. none_left (in_some ps x) (in_some qs x) (f x l) i
 covering a n ps qs (p ∷ rest) h f =

@@ -1,4 +1,4 @@
--- What is a list of rows without one variable, and has a list a point?
+-- What is a list of rows without one variable, or without all later ones, and has a list a point?
 use Rattle.std.specs.Prelude.{ℕ, zero, suc, ◌+◌, Bool, false, cond, not, ◌&&◌, ◌||◌, List, [], ◌∷◌, ◌++◌, map, filter, get_or, remove, Option, Some, None}
 use Rattle.lhg_math.specs.Number.{neg}
 use Rattle.lhg_num.specs.Arithmetic.{Arithmetic}
@@ -101,6 +101,6 @@ abbrev pub eliminate_last : Arithmetic → ℕ → ℕ → PlainPiece → Marked
 eliminate_last a kept zero rows = done rows
 eliminate_last a kept (suc count) rows = and_then (eliminate a (kept + count) rows) (eliminate_last a kept count)
 
--- whether a tidy list over n variables has no point: without its variables it is 0 < 0
+-- whether a trimmed list over n variables has no point: without its variables it is 0 < 0
 abbrev pub is_empty : Arithmetic → ℕ → PlainPiece → Marked Bool
 is_empty a n rows = valued is_nothing (eliminate_last a 0 n rows)

@@ -19,13 +19,13 @@ pub record HasPoint (n : ℕ) (rows : PlainPiece) : Type 0 where
 abbrev pub IsElimination : ℕ → ℕ → PlainPiece → PlainPiece → Type 0
 IsElimination n k old new = (x : PlainPoint) → suc (length x) ≡ n → InPiece new x ↔ HasValue k old x
 
--- some values of count later variables complete the point to one of the rows
+-- some values of count later variables complete the point to a point of the rows
 pub record Completes (count : ℕ) (rows : PlainPiece) (x : PlainPoint) : Type 0 where
   pub later : PlainPoint
   pub many : length later ≡ count
   pub inside : InPiece rows (x ++ later)
 
--- the new rows hold at a point over the first variables exactly where some values of count later ones complete it to one of the old ones
+-- the new rows hold at a point over the first variables exactly where some values of count later ones complete it to a point of the old rows
 abbrev pub IsLastElimination : ℕ → ℕ → PlainPiece → PlainPiece → Type 0
 IsLastElimination kept count old new = (x : PlainPoint) → length x ≡ kept → InPiece new x ↔ Completes count old x
 

@@ -1,7 +1,7 @@
--- Why has the piece of a list of rows exactly the points of the list?
-use Rattle.std.specs.Prelude.{◌≡◌, ◌⊎◌, ℕ, zero, suc, ◌<◌, ◌≤◌, Bool, true, false, ◌&&◌, [], ◌∷◌, length, remove, Some, None}
+-- Why has the piece of a list of rows exactly the points of the list, and no row too many?
+use Rattle.std.specs.Prelude.{◌≡◌, ◌⊎◌, ℕ, zero, suc, ◌<◌, ◌≤◌, Bool, true, false, ◌&&◌, length, remove, Some, None}
 use Rattle.std.proofs.Common.{refl, sym, ap, ◌∙◌, arith, subst, inl, inr}
-use Rattle.std.proofs.lemmas.List.Edits.{length-remove}
+use Rattle.std.proofs.lemmas.List.Edits.{length-remove, get_or-remove_above}
 use Rattle.std.proofs.Math.Nat.{eq-or-lt_of_le}
 use Rattle.lhg_math.specs.Tests.{by_bool, every_from_all, all_from_every}
 use Rattle.lhg_num.specs.Arithmetic.{Arithmetic, IsLawful}
@@ -20,7 +20,7 @@ use Rattle.lhg_row.specs.EmptyLaws.{is_empty-exact}
 use Rattle.lhg_row.specs.Pieces.{are_empty, entails, thin_at, thin, made, make}
 use Rattle.lhg_row.specs.PieceFacts.{HasCounter, IsEntailment, IsMade}
 use Rattle.lhg_row.specs.EntailLaws.{entails-exact}
-use Rattle.lhg_row.specs.RemoveLaws.{in_piece-remove, remove-wide}
+use Rattle.lhg_row.specs.RemoveLaws.{in_piece-remove, remove-wide, remove-remove}
 
 -- ---- thin
 -- a list with the points of another, of its width, and trimmed where it is
@@ -76,20 +76,6 @@ thin-is a n (suc i) rows laws h w =
 abbrev IsNeededFrom : ℕ → ℕ → PlainPiece → Type 0
 IsNeededFrom n i rows = (j : ℕ) → i ≤ j → j < length rows → HasCounter n (remove rows j) (row_at rows j)
 
--- two rows are taken out in either order
-remove-remove : (i j : ℕ) (rows : PlainPiece) → i ≤ j → suc j < length rows → remove (remove rows i) j ≡ remove (remove rows (suc j)) i
-remove-remove i j [] l h = absurd (omega arith)
-remove-remove zero j (r ∷ rows) l h = refl
-remove-remove (suc i) zero (r ∷ rows) l h = absurd (omega arith)
-remove-remove (suc i) (suc j) (r ∷ rows) l h = ap (λ rs. r ∷ rs) (remove-remove i j rows (omega arith) (omega arith))
-
--- a later row moves up by one place
-row_at-remove : (i j : ℕ) (rows : PlainPiece) → i ≤ j → i < length rows → row_at (remove rows i) j ≡ row_at rows (suc j)
-row_at-remove i j [] l h = absurd (omega arith)
-row_at-remove zero j (r ∷ rows) l h = refl
-row_at-remove (suc i) zero (r ∷ rows) l h = absurd (omega arith)
-row_at-remove (suc i) (suc j) (r ∷ rows) l h = row_at-remove i j rows (omega arith) (omega arith)
-
 -- with fewer others a row fails at a point of theirs all the more
 fewer : (n i : ℕ) (rows : PlainPiece) (r : PlainRow) → i < length rows → HasCounter n rows r → HasCounter n (remove rows i) r
 fewer n i rows r h c = record { point = c.point; wide = c.wide; inside = (all-remove (λ q. holds_at q c.point ≡ true) rows i (never 0) h c.inside).1; fails = c.fails }
@@ -107,7 +93,7 @@ thin_at-needed a n i rows laws h w f =
     let next : suc j < length rows = omega arith in
     let after = length-remove rows (suc j) next in
     subst (λ rs. HasCounter n rs (row_at rest j)) (sym (remove-remove i j rows l next))
-    (subst (HasCounter n (remove (remove rows (suc j)) i)) (sym (row_at-remove i j rows l h))
+    (subst (HasCounter n (remove (remove rows (suc j)) i)) (sym (get_or-remove_above rows i (never 0) j l h ∙ ap (row_at rows) (omega arith)))
     (fewer n i (remove rows (suc j)) (row_at rows (suc j)) (omega arith) (f (suc j) (omega arith) next)))))
     (λ e. rw e (λ j l k. at_or_after j k (subst (IsEntailment n rest r) e x) (eq-or-lt_of_le l)))
   where

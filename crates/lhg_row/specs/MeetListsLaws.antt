@@ -29,7 +29,7 @@ module _ (a : Arithmetic) (n : ℕ) (laws : IsLawful a) where
       ∙ ap (λ b. (in_piece p x && in_piece q x) || b) (meet_each-points p qs x e v w.1)
       ∙ sym (and-or_distrib_left (in_piece p x) (in_piece q x) (in_some qs x))
 
-  -- have points
+  -- are pieces
   pub meet_each-polys : (p : PlainPiece) (qs : List PlainPiece) → AllWide n p → AllOver n qs → AllPolys a n (meet_each a n p qs).value
   meet_each-polys p [] v w = tt
   meet_each-polys p (q ∷ qs) v w = listed-polys a n (p ++ q) (meet a n p q).value (meet_each a n p qs).value (make-exact a n (p ++ q) laws (append-wide n p q v w.0)) (meet_each-polys p qs v w.1)
@@ -54,7 +54,7 @@ pub meet_lists-exact : (a : Arithmetic) (n : ℕ) (ps qs : List PlainPiece) → 
 unfolding meet_lists
 meet_lists-exact a n ps qs laws v w = λ x e. all_met a n laws ps qs x e v w
 
--- its pieces have points
+-- its members are pieces
 pub meet_lists-polys : (a : Arithmetic) (n : ℕ) (ps qs : List PlainPiece) → IsLawful a → AllOver n ps → AllOver n qs → AllPolys a n (meet_lists a n ps qs).value
 unfolding meet_lists
 meet_lists-polys a n ps qs laws v w = all_polys a n laws ps qs v w

@@ -22,12 +22,12 @@ abbrev pub IsEntailment : ℕ → PlainPiece → PlainRow → Bool → Type 0
 IsEntailment n rows r true = (x : PlainPoint) → length x ≡ n → InPiece rows x → Holds r x
 IsEntailment n rows r false = HasCounter n rows r
 
--- no row holds at all points of the others
+-- each row fails at some point of the others
 abbrev pub IsIrredundant : ℕ → PlainPiece → Type 0
 IsIrredundant n piece = (i : ℕ) → i < length piece → HasCounter n (remove piece i) (row_at piece i)
 
 -- ---- pieces
--- trimmed rows over n variables, with a point, of which none follows from the others
+-- trimmed rows over n variables that have a point, each of which fails at some point of the others
 pub record IsPoly (a : Arithmetic) (n : ℕ) (piece : PlainPiece) : Type 0 where
   pub wide : AllWide n piece
   pub trimmed : IsTrimmed a piece
@@ -43,7 +43,7 @@ pub record IsPointOf (n : ℕ) (piece : PlainPiece) (x : PlainPoint) : Type 0 wh
 abbrev pub AllOver : ℕ → List PlainPiece → Type 0
 AllOver n ps = AllOf (AllWide n) ps
 
--- and has a point
+-- each list of rows is a piece
 abbrev pub AllPolys : Arithmetic → ℕ → List PlainPiece → Type 0
 AllPolys a n ps = AllOf (IsPoly a n) ps
 

@@ -50,6 +50,6 @@ abbrev pub includes : Arithmetic → ℕ → PlainPiece → PlainPiece → Marke
 includes a n p q = marked_all (entails a n q) p
 
 -- ---- project
--- the piece that the first variables of a tidy list over n variables make
+-- the piece that the first variables of a list over n variables make
 abbrev pub project : Arithmetic → ℕ → ℕ → PlainPiece → Marked (Option PlainPiece)
 project a n kept rows = and_then (eliminate_last a kept (n - kept) rows) (make a kept)

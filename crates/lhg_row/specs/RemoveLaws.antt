@@ -1,5 +1,5 @@
 -- What has a list without one of its rows?
-use Rattle.std.specs.Prelude.{◌≡◌, ℕ, zero, suc, ◌<◌, Bool, false, cond, ◌&&◌, [], ◌∷◌, length, filter, remove}
+use Rattle.std.specs.Prelude.{◌≡◌, ℕ, zero, suc, ◌<◌, ◌≤◌, Bool, false, cond, ◌&&◌, [], ◌∷◌, length, filter, remove, List}
 use Rattle.std.proofs.Common.{refl, ap, ◌∙◌, arith}
 use Rattle.lhg_row.specs.Conjunctions.{and_left_comm}
 use Rattle.lhg_row.specs.Row.{PlainRow, PlainPoint, holds_at}
@@ -24,3 +24,10 @@ pub filter-remove : (p : PlainRow → Bool) (i : ℕ) (rows : PlainPiece) → i 
 filter-remove p i [] h e = absurd (omega arith)
 filter-remove p zero (r ∷ rows) h e = rw e refl
 filter-remove p (suc i) (r ∷ rows) h e = ap (λ rs. cond (p r) (r ∷ rs) rs) (filter-remove p i rows (omega arith) e)
+
+-- two members are taken out in either order
+pub remove-remove : {A : Type 0} (i j : ℕ) (xs : List A) → i ≤ j → suc j < length xs → remove (remove xs i) j ≡ remove (remove xs (suc j)) i
+remove-remove i j [] l h = absurd (omega arith)
+remove-remove zero j (x ∷ xs) l h = refl
+remove-remove (suc i) zero (x ∷ xs) l h = absurd (omega arith)
+remove-remove (suc i) (suc j) (x ∷ xs) l h = ap (λ ys. x ∷ ys) (remove-remove i j xs (omega arith) (omega arith))

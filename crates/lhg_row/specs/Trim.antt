@@ -1,15 +1,15 @@
 -- What is a list of rows after trim, and which lists does trim leave as they are?
-use Rattle.std.specs.Prelude.{◌≡◌, ℕ, ◌+◌, ◌-◌, Bool, true, false, cond, not, ◌&&◌, ◌||◌, nat_lt, List, [], ◌∷◌, ◌++◌, length, take, get_or, filter, Option, Some, None}
+use Rattle.std.specs.Prelude.{◌≡◌, ◌⊎◌, ℕ, ◌+◌, ◌-◌, Bool, true, false, cond, not, ◌&&◌, ◌||◌, nat_lt, List, [], ◌∷◌, ◌++◌, length, take, get_or, filter, Option, Some, None}
 use Rattle.std.specs.declared.cmp.Ordering.{Ordering}
 use Rattle.std.specs.declared.cmp.Ordering.TheVariants.{Less, Equal, Greater}
 use Rattle.lhg_math.specs.Number.{Number, nought}
 use Rattle.lhg_math.specs.Signs.{size_of, same_number, lead}
-use Rattle.lhg_math.specs.Tests.{any_of}
+use Rattle.lhg_math.specs.Tests.{AllOf, Every, any_of}
 use Rattle.lhg_num.specs.Arithmetic.{Arithmetic, scaled}
 use Rattle.lhg_num.specs.Marked.{Marked, done, refusing, and_then, valued, each, walk, marked_mul, marked_cmp}
 use Rattle.lhg_row.specs.Row.{PlainRow}
 use Rattle.lhg_row.specs.Piece.{PlainPiece}
-use Rattle.lhg_row.specs.Constant.{is_constant, is_true, is_false, never}
+use Rattle.lhg_row.specs.Constant.{is_constant, varies, is_true, is_false, never, is_nothing}
 
 -- how many rows a list may have
 abbrev pub row_limit : ℕ
@@ -96,6 +96,30 @@ settled a (r ∷ rows) =
 unfoldable pub trim : Arithmetic → PlainPiece → Marked PlainPiece
 trim a rows = and_then (counted rows) (λ rs. and_then (each (canon a) rs) (settled a))
 
--- trim gives the list back
+-- ---- trimmed lists
+-- the value of trim of the list, whatever its marks, is the list
 abbrev pub IsTrimmed : Arithmetic → PlainPiece → Type 0
 IsTrimmed a rows = (trim a rows).value ≡ rows
+
+-- the row is as its type scales it
+abbrev pub IsScaled : Arithmetic → PlainRow → Type 0
+IsScaled a r = (canon a r).value ≡ r
+
+-- no row of the list has the direction of s
+abbrev pub IsAway : Arithmetic → PlainRow → PlainPiece → Type 0
+IsAway a s rows = Every (λ t. not (same_direction a t s).value) rows
+
+-- no row has the direction of one before it
+abbrev pub AreApart : Arithmetic → PlainPiece → Type 0
+AreApart a [] = Unit {0}
+AreApart a (s ∷ ss) = IsAway a s ss × AreApart a ss
+
+-- scaled rows of different directions, each with a variable
+pub record IsSettled (a : Arithmetic) (rows : PlainPiece) : Type 0 where
+  pub vary : Every varies rows
+  pub scaled : AllOf (IsScaled a) rows
+  pub apart : AreApart a rows
+
+-- such rows, or 0 < 0 alone
+abbrev pub IsSettledOrNothing : Arithmetic → PlainPiece → Type 0
+IsSettledOrNothing a rows = (is_nothing rows ≡ true) ⊎ IsSettled a rows

@@ -102,9 +102,12 @@ module _ (a : Arithmetic) (P : PlainRow → Type 0) (taken : (o : Ordering) (s r
   gathered-all ks [] h k = h
   gathered-all ks (r ∷ rows) h k = gathered-all (placed a r ks).value rows (placed-all r ks k.0 h) k.1
 
+tighter-varies : (o : Ordering) (s r : PlainRow) → varies s ≡ true → varies r ≡ true → varies (tighter o s r) ≡ true
+tighter-varies = tighter-all (λ cs. not (is_nought (lead cs)) ≡ true)
+
 -- rows with a variable stay rows with a variable
 pub placed-varies : (a : Arithmetic) (r : PlainRow) (ss : PlainPiece) → varies r ≡ true → Every varies ss → Every varies (placed a r ss).value
-placed-varies a = placed-all a (λ r. varies r ≡ true) (tighter-all (λ cs. not (is_nought (lead cs)) ≡ true))
+placed-varies a = placed-all a (λ r. varies r ≡ true) tighter-varies
 
 -- the list with a row put among its own holds where both do
 placed-holds : (a : Arithmetic) (r : PlainRow) (ss : PlainPiece) (x : PlainPoint) → varies r ≡ true → Every varies ss
@@ -126,7 +129,7 @@ gathered-holds a ks (r ∷ rows) x h k =
 
 -- gathered rows with a variable are rows with a variable
 pub gathered-varies : (a : Arithmetic) (ks rows : PlainPiece) → Every varies ks → Every varies rows → Every varies (gathered a ks rows).value
-gathered-varies a = gathered-all a (λ r. varies r ≡ true) (tighter-all (λ cs. not (is_nought (lead cs)) ≡ true))
+gathered-varies a = gathered-all a (λ r. varies r ≡ true) tighter-varies
 
 -- ---- trim
 settled-holds : (a : Arithmetic) (rows : PlainPiece) (x : PlainPoint) → in_piece (settled a rows).value x ≡ in_piece rows x

@@ -1,5 +1,5 @@
--- Why does trim give back what it made, and each part of that?
-use Rattle.std.specs.Prelude.{◌≡◌, ◌⊎◌, ℕ, zero, suc, ◌<◌, Bool, true, false, not, ◌||◌, List, [], ◌∷◌, ◌++◌, map, length, filter, remove}
+-- Why is a list that trim made its own trim, and so is that list without one of its rows?
+use Rattle.std.specs.Prelude.{◌≡◌, ℕ, zero, suc, ◌<◌, Bool, true, false, not, ◌||◌, List, [], ◌∷◌, ◌++◌, map, length, filter, remove}
 use Rattle.std.proofs.Common.{refl, sym, ap, ◌∙◌, arith, subst, inl, inr}
 use Rattle.std.proofs.lemmas.Bool.{not-true}
 use Rattle.std.proofs.lemmas.List.{map-append, append-nil, append_assoc}
@@ -8,35 +8,24 @@ use Rattle.std.specs.declared.cmp.Ordering.TheVariants.{Less, Equal, Greater}
 use Rattle.lhg_math.specs.Number.{Number, mul, lt, nought}
 use Rattle.lhg_math.specs.NumberRing.{mul_comm, mul_assoc}
 use Rattle.lhg_math.specs.NumberOrder.{mul_cancel}
-use Rattle.lhg_math.specs.Signs.{is_nought, lead}
+use Rattle.lhg_math.specs.Signs.{is_nought, lead, size_of}
 use Rattle.lhg_math.specs.SignLaws.{same_number-self, size_above, is_nought-scaled, lead-scaled}
-use Rattle.lhg_math.specs.Tests.{AllOf, Every, all_of, any_of, by_bool, false_true}
-use Rattle.lhg_num.specs.Arithmetic.{Arithmetic, IsLawful, scaled, scaled-held, scaled_multiple}
+use Rattle.lhg_math.specs.Tests.{AllOf, Every, any_of, by_bool, false_true}
+use Rattle.lhg_num.specs.Arithmetic.{Arithmetic, IsLawful, scaled, scaled-scaled, scaled_multiple}
 use Rattle.lhg_num.specs.Marked.{each}
 use Rattle.lhg_row.specs.Row.{PlainRow, row_with}
 use Rattle.lhg_row.specs.Piece.{PlainPiece}
-use Rattle.lhg_row.specs.Constant.{is_constant, varies, is_true, is_false, never, is_nothing}
+use Rattle.lhg_row.specs.Constant.{is_constant, varies, is_true, is_false, never}
 use Rattle.lhg_row.specs.ConstantLaws.{never-never, is_never-is, filter-varies}
 use Rattle.lhg_row.specs.ValueLaws.{scaled_row}
 use Rattle.lhg_row.specs.Members.{all_split, all-filter, all-remove}
 use Rattle.lhg_row.specs.Width.{IsTidy}
-use Rattle.lhg_row.specs.Trim.{entries_of, row_of, canon, lead_size, agree, same_direction, bound_order, tighter, placed, gathered, settled, trim, IsTrimmed}
-use Rattle.lhg_row.specs.TrimLaws.{row_of-end, row_of-canon, agree-same, placed-all, gathered-all, gathered-varies}
+use Rattle.lhg_row.specs.Trim.{entries_of, row_of, canon, lead_size, agree, same_direction, bound_order, tighter, placed, gathered, settled, trim, IsScaled, IsAway, AreApart, IsTrimmed, IsSettled, IsSettledOrNothing}
+use Rattle.lhg_row.specs.TrimLaws.{row_of-end, row_of-canon, agree-same, placed-all, gathered-all, gathered-varies, tighter-all}
 use Rattle.lhg_row.specs.NothingLaws.{trim-never}
 use Rattle.lhg_row.specs.WidthLaws.{trim-tidy}
 
 -- ---- scaled rows
--- entries that were scaled are not changed again
-scaled-scaled : (a : Arithmetic) (xs : List Number) → IsLawful a → scaled a (scaled a xs) ≡ scaled a xs
-scaled-scaled a xs laws =
-    by_bool (all_of a.holds xs)
-    (λ e. let k = laws.canon_held xs e in rw e (scaled-held a (a.canon_of xs) k ∙ laws.same xs (a.canon_of xs) e k (laws.multiple xs e)))
-    (λ e. let s : scaled a xs ≡ xs = rw e refl in ap (scaled a) s)
-
--- the row is as its type scales it
-abbrev IsScaled : Arithmetic → PlainRow → Type 0
-IsScaled a r = (canon a r).value ≡ r
-
 -- a row that was scaled is
 canon-scaled : (a : Arithmetic) (r : PlainRow) → IsLawful a → IsScaled a (canon a r).value
 canon-scaled a r laws =
@@ -109,17 +98,8 @@ module _ (a : Arithmetic) where
       (through (lead_size t) (lead_size r) (lead_size s) t.coefs r.coefs s.coefs (size_above (lead r.coefs) v) (agree-same a (λ y. y) (lead_size r) (lead_size t) t.coefs r.coefs h)
       (agree-same a (λ y. y) (lead_size s) (lead_size r) r.coefs s.coefs k))
 
-  -- no row of the list has the direction of s
-  abbrev Away : PlainRow → PlainPiece → Type 0
-  Away s ts = Every (λ t. not (same_direction a t s).value) ts
-
-  -- no row has the direction of one before it
-  abbrev Apart : PlainPiece → Type 0
-  Apart [] = Unit {0}
-  Apart (s ∷ ss) = Away s ss × Apart ss
-
   -- what is away from a row is away from another of its direction
-  away-same : (r s : PlainRow) (ts : PlainPiece) → is_constant r ≡ false → (same_direction a r s).value ≡ true → Away s ts → Away r ts
+  away-same : (r s : PlainRow) (ts : PlainPiece) → is_constant r ≡ false → (same_direction a r s).value ≡ true → IsAway a s ts → IsAway a r ts
   away-same r s [] v e h = tt
   away-same r s (t ∷ ts) v e h =
       let here : not (same_direction a t r).value ≡ true =
@@ -127,27 +107,21 @@ module _ (a : Arithmetic) where
       (here, away-same r s ts v e h.1)
 
   -- and from the tighter of the two
-  away-tighter : (o : Ordering) (r s : PlainRow) (ts : PlainPiece) → is_constant r ≡ false → (same_direction a r s).value ≡ true → Away s ts → Away (tighter o s r) ts
+  away-tighter : (o : Ordering) (r s : PlainRow) (ts : PlainPiece) → is_constant r ≡ false → (same_direction a r s).value ≡ true → IsAway a s ts → IsAway a (tighter o s r) ts
   away-tighter Less r s ts v e h = away-same r s ts v e h
   away-tighter Equal r s ts v e h = h
   away-tighter Greater r s ts v e h = h
 
   -- a row that is put among rows of different directions leaves them different
-  placed-apart : (r : PlainRow) (ss : PlainPiece) → is_constant r ≡ false → Apart ss → Apart (placed a r ss).value
+  placed-apart : (r : PlainRow) (ss : PlainPiece) → is_constant r ≡ false → AreApart a ss → AreApart a (placed a r ss).value
   placed-apart r [] v h = (tt, tt)
   placed-apart r (s ∷ ss) v h =
       by_bool (same_direction a r s).value
       (λ e. rw e (away-tighter (bound_order a r s).value r s ss v e h.0, h.1))
-      (λ e. rw e (placed-all a (λ t. not (same_direction a t s).value ≡ true) (away_tighter s) r ss (rw e refl) h.0, placed-apart r ss v h.1))
-    where
-      away_tighter : (s : PlainRow) (o : Ordering) (t u : PlainRow) → not (same_direction a t s).value ≡ true → not (same_direction a u s).value ≡ true
-          → not (same_direction a (tighter o t u) s).value ≡ true
-      away_tighter s Less t u h k = k
-      away_tighter s Equal t u h k = h
-      away_tighter s Greater t u h k = h
+      (λ e. rw e (placed-all a (λ t. not (same_direction a t s).value ≡ true) (tighter-all (λ cs. not (agree a (λ y. y) (lead_size s) (size_of (lead cs)) cs s.coefs).value ≡ true)) r ss (rw e refl) h.0, placed-apart r ss v h.1))
 
   -- so gathered rows are of different directions
-  gathered-apart : (ks rows : PlainPiece) → Every varies rows → Apart ks → Apart (gathered a ks rows).value
+  gathered-apart : (ks rows : PlainPiece) → Every varies rows → AreApart a ks → AreApart a (gathered a ks rows).value
   gathered-apart ks [] v h = h
   gathered-apart ks (r ∷ rows) v h = gathered-apart (placed a r ks).value rows v.1 (placed-apart r ks (not-true _ v.0) h)
 
@@ -157,33 +131,23 @@ module _ (a : Arithmetic) where
   placed-new r (s ∷ ss) h = rw (not-true _ h.0) (ap (λ ts. s ∷ ts) (placed-new r ss h.1))
 
   -- each row is away from those before it
-  before : (ks : PlainPiece) (r : PlainRow) (rows : PlainPiece) → Apart (ks ++ r ∷ rows) → Every (λ s. not (same_direction a r s).value) ks
+  before : (ks : PlainPiece) (r : PlainRow) (rows : PlainPiece) → AreApart a (ks ++ r ∷ rows) → Every (λ s. not (same_direction a r s).value) ks
   before [] r rows h = tt
   before (k ∷ ks) r rows h = ((all_split (λ t. not (same_direction a t k).value ≡ true) ks (r ∷ rows) h.0).1.0, before ks r rows h.1)
 
   -- rows of different directions are gathered as they are
-  apart-gathered : (ks rows : PlainPiece) → Apart (ks ++ rows) → (gathered a ks rows).value ≡ ks ++ rows
+  apart-gathered : (ks rows : PlainPiece) → AreApart a (ks ++ rows) → (gathered a ks rows).value ≡ ks ++ rows
   apart-gathered ks [] h = sym (append-nil ks)
   apart-gathered ks (r ∷ rows) h =
       let q : (ks ++ r ∷ []) ++ rows ≡ ks ++ r ∷ rows = append_assoc ks (r ∷ []) rows in
-      ap (λ ls. (gathered a ls rows).value) (placed-new r ks (before ks r rows h)) ∙ apart-gathered (ks ++ r ∷ []) rows (subst Apart (sym q) h) ∙ q
+      ap (λ ls. (gathered a ls rows).value) (placed-new r ks (before ks r rows h)) ∙ apart-gathered (ks ++ r ∷ []) rows (subst (AreApart a) (sym q) h) ∙ q
 
-  apart-remove : (rows : PlainPiece) (i : ℕ) → i < length rows → Apart rows → Apart (remove rows i)
+  apart-remove : (rows : PlainPiece) (i : ℕ) → i < length rows → AreApart a rows → AreApart a (remove rows i)
   apart-remove [] i l h = absurd (omega arith)
   apart-remove (r ∷ rows) zero l h = h.1
   apart-remove (r ∷ rows) (suc i) l h = ((all-remove (λ t. not (same_direction a t r).value ≡ true) rows i (never 0) (omega arith) h.0).1, apart-remove rows i (omega arith) h.1)
 
 -- ---- trim
--- scaled rows of different directions, each with a variable
-record IsSettled (a : Arithmetic) (rows : PlainPiece) : Type 0 where
-  vary : Every varies rows
-  scaled : AllOf (IsScaled a) rows
-  apart : Apart a rows
-
--- these, or 0 < 0 alone
-abbrev IsKept : Arithmetic → PlainPiece → Type 0
-IsKept a rows = (is_nothing rows ≡ true) ⊎ IsSettled a rows
-
 none_false : (rows : PlainPiece) → Every varies rows → any_of is_false rows ≡ false
 none_false [] v = refl
 none_false (r ∷ rows) v = rw (not-true _ v.0, none_false rows v.1) refl
@@ -199,7 +163,7 @@ settled-settled a (r ∷ rows) h =
     rw (none_false (r ∷ rows) h.vary) (ap (λ rs. (gathered a [] rs).value) (all_stay (r ∷ rows) h.vary) ∙ apart-gathered a [] (r ∷ rows) h.apart)
 
 -- what trim keeps it gives back
-kept-trimmed : (a : Arithmetic) (rows : PlainPiece) → IsKept a rows → IsTrimmed a rows
+kept-trimmed : (a : Arithmetic) (rows : PlainPiece) → IsSettledOrNothing a rows → IsTrimmed a rows
 unfolding trim
 kept-trimmed a [] (inl f) = false_true f
 kept-trimmed a (r ∷ []) (inl f) =
@@ -208,7 +172,7 @@ kept-trimmed a (r ∷ []) (inl f) =
 kept-trimmed a (r ∷ s ∷ rows) (inl f) = false_true f
 kept-trimmed a rows (inr h) = ap (λ rs. (settled a rs).value) (scaled-canons a rows h.scaled) ∙ settled-settled a rows h
 
-settled-kept : (a : Arithmetic) (rows : PlainPiece) → AllOf (IsScaled a) rows → IsKept a (settled a rows).value
+settled-kept : (a : Arithmetic) (rows : PlainPiece) → AllOf (IsScaled a) rows → IsSettledOrNothing a (settled a rows).value
 settled-kept a [] h = inr (record { vary = tt; scaled = tt; apart = tt })
 settled-kept a (r ∷ rows) h =
     let rest = filter (λ s. not (is_true s)) (r ∷ rows) in
@@ -222,19 +186,23 @@ settled-kept a (r ∷ rows) h =
       apart = gathered-apart a [] rest v tt;
     })))
 
-trim-kept : (a : Arithmetic) (rows : PlainPiece) → IsLawful a → IsKept a (trim a rows).value
+trim-kept : (a : Arithmetic) (rows : PlainPiece) → IsLawful a → IsSettledOrNothing a (trim a rows).value
 unfolding trim
 trim-kept a rows laws = settled-kept a (each (canon a) rows).value (canons-scaled a rows laws)
 
--- trim gives back what it made
+-- a list that trim made is its own trim
 pub trim-trimmed : (a : Arithmetic) (rows : PlainPiece) → IsLawful a → IsTrimmed a (trim a rows).value
 trim-trimmed a rows laws = kept-trimmed a (trim a rows).value (trim-kept a rows laws)
 
--- a trimmed list is tidy
+-- a trimmed list is 0 < 0 alone, or settled
+pub trimmed-settled : (a : Arithmetic) (rows : PlainPiece) → IsLawful a → IsTrimmed a rows → IsSettledOrNothing a rows
+trimmed-settled a rows laws h = subst (IsSettledOrNothing a) h (trim-kept a rows laws)
+
+-- so a trimmed list is tidy
 pub trimmed-tidy : (a : Arithmetic) (rows : PlainPiece) → IsTrimmed a rows → IsTidy rows
 trimmed-tidy a rows h = subst IsTidy h (trim-tidy a rows)
 
-remove-kept : (a : Arithmetic) (rows : PlainPiece) (i : ℕ) → i < length rows → IsKept a rows → IsKept a (remove rows i)
+remove-kept : (a : Arithmetic) (rows : PlainPiece) (i : ℕ) → i < length rows → IsSettledOrNothing a rows → IsSettledOrNothing a (remove rows i)
 remove-kept a [] i l h = absurd (omega arith)
 remove-kept a (r ∷ []) zero l (inl f) = inr (record { vary = tt; scaled = tt; apart = tt })
 remove-kept a (r ∷ []) (suc i) l (inl f) = absurd (omega arith)
@@ -247,4 +215,4 @@ remove-kept a rows i l (inr h) = inr (record {
 
 -- a trimmed list stays trimmed without a row
 pub remove-trimmed : (a : Arithmetic) (rows : PlainPiece) (i : ℕ) → IsLawful a → i < length rows → IsTrimmed a rows → IsTrimmed a (remove rows i)
-remove-trimmed a rows i laws l h = kept-trimmed a (remove rows i) (remove-kept a rows i l (subst (IsKept a) h (trim-kept a rows laws)))
+remove-trimmed a rows i laws l h = kept-trimmed a (remove rows i) (remove-kept a rows i l (trimmed-settled a rows laws h))

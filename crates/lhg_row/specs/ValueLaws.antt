@@ -19,7 +19,7 @@ marked_value-value a s (c ∷ cs) [] = refl
 marked_value-value a s (c ∷ cs) (x ∷ xs) = marked_value-value a (add s (mul c x)) cs xs
 
 -- a choice between two falsehoods
-pub all_false : (s : Bool) → false ≡ cond s false false
+all_false : (s : Bool) → false ≡ cond s false false
 all_false true = refl
 all_false false = refl
 

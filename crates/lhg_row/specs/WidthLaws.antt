@@ -1,5 +1,5 @@
 -- How many coefficients have trimmed rows and those without a variable, and are they tidy?
-use Rattle.std.specs.Prelude.{◌≡◌, ℕ, zero, suc, ◌<◌, true, not, List, [], ◌∷◌, ◌++◌, map, length, filter, remove, Option, Some, None}
+use Rattle.std.specs.Prelude.{◌≡◌, ℕ, suc, ◌<◌, true, not, List, [], ◌∷◌, ◌++◌, map, length, filter, Option, Some, None}
 use Rattle.std.proofs.Common.{refl, sym, ap, ◌∙◌, arith, inl, inr}
 use Rattle.std.proofs.lemmas.List.{length-map, length-replicate}
 use Rattle.lhg_math.specs.Number.{Number, mul, nought}
@@ -20,6 +20,7 @@ use Rattle.lhg_row.specs.Eliminate.{row_at, beside, same_side, partner, with_low
 use Rattle.lhg_row.specs.WithoutLaws.{filter-wide}
 use Rattle.lhg_row.specs.PairLaws.{HasPair, pair_at-is, beside-wide}
 use Rattle.lhg_row.specs.Members.{all-append}
+use Rattle.std.proofs.lemmas.List.Edits.{length-remove}
 
 -- ---- trim
 canon-wide : (a : Arithmetic) (n : ℕ) (r : PlainRow) → IsLawful a → length r.coefs ≡ n → length (canon a r).value.coefs ≡ n
@@ -60,7 +61,7 @@ settled-tidy a (r ∷ rows) =
     (λ e. rw e (inl (never-never (length r.coefs))))
     (λ e. rw e (inr (gathered-varies a [] (filter (λ s. not (is_true s)) (r ∷ rows)) tt (filter-varies (r ∷ rows) e))))
 
--- a trimmed list is tidy
+-- what trim leaves is tidy
 pub trim-tidy : (a : Arithmetic) (rows : PlainPiece) → IsTidy (trim a rows).value
 unfolding trim
 trim-tidy a rows = settled-tidy a (each (canon a) rows).value
@@ -71,17 +72,10 @@ entries-length a f g [] ds e = refl
 entries-length a f g (c ∷ cs) [] e = absurd (omega arith)
 entries-length a f g (c ∷ cs) (d ∷ ds) e = ap suc (entries-length a f g cs ds (omega arith))
 
--- a list is one shorter without a place
-pub remove-length : (k m : ℕ) (xs : List Number) → length xs ≡ suc m → k < suc m → length (remove xs k) ≡ m
-remove-length k m [] e h = absurd (omega arith)
-remove-length zero m (x ∷ xs) e h = omega arith
-remove-length (suc k) zero (x ∷ xs) e h = absurd (omega arith)
-remove-length (suc k) (suc m) (x ∷ xs) e h = ap suc (remove-length k m xs (omega arith) (omega arith))
-
 -- rows without one column are one narrower
 drop-wide : (k m : ℕ) (rows : PlainPiece) → k < suc m → AllWide (suc m) rows → AllWide m (map (drop_column k) rows)
 drop-wide k m [] h w = tt
-drop-wide k m (r ∷ rows) h w = (remove-length k m r.coefs w.0 h, drop-wide k m rows h w.1)
+drop-wide k m (r ∷ rows) h w = (omega (arith, length-remove r.coefs k (omega (arith, h, w.0)), w.0), drop-wide k m rows h w.1)
 
 module _ (a : Arithmetic) (k n : ℕ) where
   -- a combination has the width of its rows

@@ -7,7 +7,7 @@ pub fn law_rows()
     ensures { RowLaws }
 {}
 
-/// Trimmed lists have the points of the lists that they come from.
+/// Trimmed lists have the points of the lists that they come from, and are their own trims; what rows they have.
 pub fn law_trim()
     ensures { TrimLaws }
 {}

@@ -1,5 +1,5 @@
 // Copies of rows.
-ghost use Rattle.std.specs.Prelude.{◌++◌};
+ghost use Rattle.std.specs.Prelude.{◌≡◌, ◌++◌, OnErr};
 ghost use Rattle.lhg_num.specs.Marked.{done};
 ghost use Rattle.lhg_num.specs.Halting.{IsHaltedByMemory};
 
@@ -23,21 +23,23 @@ pub fn copy_rows<N: Scalar>(alloc: Global, rows: &[Row<N>]) -> Result<Vec<Row<N>
     ensures { IsHaltedByMemory result (done rows.now) (λ v. v.items) }
 {
     let mut out = Vec::with_capacity(alloc, rows.len())?;
-    append_rows(alloc, &mut out, rows)?;
+    for row in rows {
+        let copy = copy_row(alloc, row)?;
+        out.push(copy)?;
+    }
     Ok(out)
 }
 
-/// Puts copies of the rows at the end of the list. It halts for `Memory` alone.
+/// Puts copies of the rows at the end of the list. It halts for `Memory` alone, and then leaves the list as it was.
 pub fn append_rows<N: Scalar>(
     alloc: Global,
     out: &mut Vec<Row<N>>,
     rows: &[Row<N>],
 ) -> Result<(), Halt>
-    ensures { IsHaltedByMemory result (done (out.old.items ++ rows.now)) (λ _. out.new.items) }
+    ensures list { IsHaltedByMemory result (done (out.old.items ++ rows.now)) (λ _. out.new.items) }
+    ensures err { OnErr result (out.new.items ≡ out.old.items) }
 {
-    for row in rows {
-        let copy = copy_row(alloc, row)?;
-        out.push(copy)?;
-    }
+    let mut copies = copy_rows(alloc, rows)?;
+    out.append(&mut copies)?;
     Ok(())
 }

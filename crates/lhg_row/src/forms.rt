@@ -8,6 +8,7 @@ ghost use Rattle.lhg_row.specs.Row.{PlainPoint, holds_at, relaxed, row_with};
 ghost use Rattle.lhg_row.specs.Kinds as plain;
 ghost use Rattle.lhg_row.specs.Moves as moves;
 
+use crate::copies::copy_row;
 use crate::rows::{Kind, Row};
 use lhg_num::{Frac, Halt, Scalar};
 use std::alloc::Global;
@@ -39,11 +40,9 @@ pub fn negate<N: Scalar>(alloc: Global, row: &Row<N>) -> Result<Row<N>, Halt>
 pub fn relax<N: Scalar>(alloc: Global, row: &Row<N>) -> Result<Row<N>, Halt>
     ensures { IsHaltedByMemory result (done (relaxed row.now)) (λ r. r) }
 {
-    Ok(Row {
-        coefs: Vec::from_slice(alloc, &row.coefs)?,
-        kind: Kind::Weak,
-        bound: row.bound,
-    })
+    let mut weak = copy_row(alloc, row)?;
+    weak.kind = Kind::Weak;
+    Ok(weak)
 }
 
 /// The row over `vars` variables in which coefficient i of the old one stands at `places[i]`, and all others are 0. There is

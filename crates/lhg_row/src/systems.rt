@@ -10,8 +10,8 @@ use lhg_num::{Halt, Scalar};
 use std::alloc::Global;
 use std::marker::Model;
 
-/// A number of variables and a trimmed list of rows, each with that many coefficients: `trim` gives the list back. So it is `0 < 0`
-/// alone, or its rows are scaled, each has a variable, and no two have one direction.
+/// A number of variables and a trimmed list of rows, each with that many coefficients: the value of the calculus's `trim` of the list is the
+/// list. So it is `0 < 0` alone, or its rows are scaled, each has a variable, and no two have one direction.
 #[derive(Drop)]
 pub struct System<N: Scalar> {
     vars: usize,

@@ -4,7 +4,7 @@ ghost use Rattle.lhg_math.specs.Tests.{any_of};
 ghost use Rattle.lhg_num.specs.Arithmetic as arithmetic;
 ghost use Rattle.lhg_num.specs.Marked.{done, each, refusing, valued};
 ghost use Rattle.lhg_num.specs.Halting.{IsWideBy, IsHaltedByMemory, IsHaltedByWide, IsHaltedByRows};
-ghost use Rattle.lhg_row.specs.Row.{PlainRow, PlainPoint};
+ghost use Rattle.lhg_row.specs.Row.{PlainPoint};
 ghost use Rattle.lhg_row.specs.Piece.{in_piece};
 ghost use Rattle.lhg_row.specs.Kinds as plain;
 ghost use Rattle.lhg_row.specs.Constant as constant;

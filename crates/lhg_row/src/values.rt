@@ -3,7 +3,7 @@ ghost use Rattle.std.specs.Prelude.{◌≡◌, length, map, IfOk};
 ghost use Rattle.std.specs.declared.cmp.Ordering.{Ordering};
 ghost use Rattle.lhg_math.specs.Number.{nought};
 ghost use Rattle.lhg_num.specs.Halting.{IsWideBy, IsHaltedByWide};
-ghost use Rattle.lhg_row.specs.Row.{PlainRow, PlainPoint, holds_at};
+ghost use Rattle.lhg_row.specs.Row.{PlainPoint, holds_at};
 ghost use Rattle.lhg_row.specs.Piece.{in_piece};
 ghost use Rattle.lhg_row.specs.Width.{AllWide};
 ghost use Rattle.lhg_row.specs.Kinds as plain;
@@ -11,6 +11,7 @@ ghost use Rattle.lhg_row.specs.Moves.{moved};
 ghost use Rattle.lhg_row.specs.Truths.{piece_truth};
 ghost use Rattle.lhg_row.specs.Values as calculus;
 
+use crate::copies::copy_row;
 use crate::rows::{Kind, Point, Row};
 use lhg_num::{Halt, Scalar, Wide};
 use std::alloc::Global;
@@ -52,11 +53,9 @@ pub fn shift<N: Scalar>(alloc: Global, row: &Row<N>, by: &Point<N>, m: &N) -> Re
     ensures points { IfOk result (λ r. (x : PlainPoint) → length x ≡ length by.now → holds_at r x ≡ holds_at row.now (moved x (N.meaning m.now) by.now)) }
 {
     let bound = shifted_bound(row, by, m)?;
-    Ok(Row {
-        coefs: Vec::from_slice(alloc, &row.coefs)?,
-        kind: row.kind,
-        bound,
-    })
+    let mut shifted = copy_row(alloc, row)?;
+    shifted.bound = bound;
+    Ok(shifted)
 }
 
 // The bound less m times the value of the row at the point.

@@ -25,7 +25,7 @@ pub listed-append : (o : Option PlainPiece) (ps : List PlainPiece) → listed o 
 listed-append None ps = refl
 listed-append (Some p) ps = refl
 
--- pieces over n variables with points
+-- what the code holds as pieces are pieces over n variables
 pub polys_over : (a : Arithmetic) (n : ℕ) (ps : List PlainSystem) → AllVars n ps → ArePolys a ps → AllPolys a n (lines_of ps)
 polys_over a n [] v h = tt
 polys_over a n (p ∷ ps) v h = (subst (λ m. IsPoly a m p.lines) v.0 h.0, polys_over a n ps v.1 h.1)

@@ -27,7 +27,7 @@ met-points a n (p ∷ ps) qs out i laws v w h is k f =
     subst (IsIntersection n (lines_of (p ∷ ps)) (lines_of qs)) (sym is)
     (meet_lists-exact a n (lines_of (p ∷ ps)) (lines_of qs) laws (over a n i (p ∷ ps) v h k) (polys-over a n (lines_of qs) (polys_over a n qs w (f (omega arith)))))
 
--- and its pieces have points
+-- and its members are pieces
 pub met-polys : (a : Arithmetic) (n : ℕ) (ps qs out : List PlainSystem) (i : ℕ) → IsLawful a → AllVars n ps → AllVars n qs → AllVars n out → length ps ≤ i → lines_of out ≡ (meet_lists a n (lines_of ps) (lines_of qs)).value
     → ArePolys a (take i ps) → (0 < i → ArePolys a qs) → ArePolys a out
 met-polys a n [] qs out i laws v w u h is k f = polys_back a n out u (subst (AllPolys a n) (sym (is ∙ none_met a n (lines_of qs))) tt)

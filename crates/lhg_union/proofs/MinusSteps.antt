@@ -11,7 +11,7 @@ use Rattle.lhg_row.specs.Lists.{minus_piece, minus_one, minus}
 use Rattle.lhg_row.proofs.Steps.{drop_cons}
 use Rattle.lhg_union.specs.PolyLists.{lines_of, AllVars}
 use Rattle.lhg_union.proofs.ListFacts.{lines_of-append, all_at}
-use Rattle.lhg_union.proofs.GatherSteps.{more-part, more-step}
+use Rattle.lhg_union.proofs.GatherSteps.{more-step}
 use Rattle.lhg_row.specs.Members.{all-append}
 
 -- ---- a list by one piece
@@ -27,14 +27,6 @@ module _ (a : Arithmetic) (n : ℕ) (q : PlainPiece) (all out rest : List PlainS
 
   here : IsBuilt (each_joined f (lines_of all)) (lines_of out) (each_joined f (p.lines ∷ lines_of more))
   here = subst (λ ps. IsBuilt (each_joined f (lines_of all)) (lines_of out) (each_joined f (lines_of ps))) is h.built
-
-  -- the next piece is over n variables
-  pub reducing-vars : p.width ≡ n
-  reducing-vars = (subst (AllVars n) is h.later).0
-
-  -- the marks of the next piece
-  pub reducing-part : IsPart (each_joined f (lines_of all)) (f p.lines)
-  reducing-part = more-part (each_joined f (lines_of all)) (lines_of out) (f p.lines) (λ ys. ys) (each_joined f (lines_of more)) here
 
   -- what is left of one piece more
   pub reducing-built : (left : List PlainPiece) → left ≡ (f p.lines).value → IsBuilt (each_joined f (lines_of all)) (lines_of out ++ left) (each_joined f (lines_of more))

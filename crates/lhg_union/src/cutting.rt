@@ -10,7 +10,7 @@ ghost use Rattle.lhg_row.specs.Width.{AllWide};
 ghost use Rattle.lhg_row.specs.PieceFacts.{IsPoly};
 ghost use Rattle.lhg_row.specs.Pieces.{make};
 ghost use Rattle.lhg_row.specs.Lists as calculus;
-ghost use Rattle.lhg_union.specs.PolyLists.{lines_of, as_list, AllVars, ArePolys};
+ghost use Rattle.lhg_union.specs.PolyLists.{lines_of, as_list, AllVars};
 
 use lhg_num::{Halt, Scalar};
 use lhg_poly::{Poly, are_apart, make};

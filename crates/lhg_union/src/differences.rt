@@ -1,5 +1,5 @@
 // A list of pieces by a list of pieces: what is left of the first, and whether the second covers it.
-ghost use Rattle.std.specs.Prelude.{◌≡◌, ℕ, ◌&&◌, not, length, IfOk};
+ghost use Rattle.std.specs.Prelude.{ℕ, IfOk};
 ghost use Rattle.lhg_num.specs.Marked.{done};
 ghost use Rattle.lhg_num.specs.Halting.{IsHaltedBy, IsHaltedByMemory};
 ghost use Rattle.lhg_row.specs.PieceFacts.{IsPoly, IsDifference, IsCovering};

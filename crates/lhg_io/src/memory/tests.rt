@@ -1,5 +1,7 @@
 //! The ends in memory, read to the end and written to.
-use crate::{Failed, Fault, INPUT_LIMIT, MemSink, MemSource, ReadAll, read_all, write_all};
+use crate::{
+    Failed, Fault, INPUT_LIMIT, MemSink, MemSource, NoMemory, ReadAll, read_all, write_all,
+};
 use std::test::Fail;
 
 const NEVER: u32 = 99;
@@ -77,5 +79,7 @@ fn refusals_say_their_names(rt: HostRuntime) -> Result<(), Fail> {
     assert_eq!(rt; fault.as_str(), "Fault");
     let failed = format!(in rt.alloc(); "{Failed}")?;
     assert_eq!(rt; failed.as_str(), "Failed");
+    let no_memory = format!(in rt.alloc(); "{NoMemory}")?;
+    assert_eq!(rt; no_memory.as_str(), "NoMemory");
     Ok(())
 }

@@ -1,13 +1,11 @@
-use Rattle.std.proofs.Common.{◌≡◌, ◌-◌, ◌∙◌, not, length, ap, sym, subst, arith}
-use Rattle.std.specs.Bool.{◌==◌}
-use Rattle.lhg_row.specs.Piece.{PlainPiece}
+use Rattle.std.proofs.Common.{◌≡◌, ◌-◌, ◌∙◌, ap, sym, subst, arith}
 use Rattle.lhg_row.specs.System.{IsSystem}
 use Rattle.lhg_row.specs.Constant.{is_nothing}
 use Rattle.lhg_row.specs.HasValue.{IsLastElimination, IsEmptiness}
 use Rattle.lhg_row.specs.Eliminate.{eliminate_last}
 use Rattle.lhg_row.specs.TrimmedLaws.{trimmed-tidy}
 use Rattle.lhg_row.specs.EmptyLaws.{nothing-empty}
-use Rattle.lhg_elim.proofs.EmptySteps.{row-nothing}
+use Rattle.lhg_elim.proofs.EmptySteps.{shown-nothing}
 use Rattle.lhg_elim.proofs.emptiness.is_empty.Goals as goal
 
 pub returns-clause-calculus : goal.returns-clause-calculus
@@ -17,7 +15,7 @@ returns-clause-calculus g c =
     let l = c.in_ok-left.left in
     let all : s.width - 0 ≡ s.width = omega arith in
     let is : IsSystem a 0 l.lines = subst (λ n. IsSystem a n l.lines) c.in_ok-left.ensures.width c.rows.ensures.trimmed in
-    ap not (c.is_empty.ensures ∙ ap (λ (rs : PlainPiece). length rs == 0) c.rows.ensures.rows) ∙ row-nothing a l.lines is ∙ ap is_nothing c.in_ok-left.ensures.list ∙ ap (λ n. is_nothing (eliminate_last a 0 n s.lines).value) all
+    shown-nothing a l.lines is c.is_empty.result c.rows.result.now c.is_empty.ensures c.rows.ensures.rows ∙ ap is_nothing c.in_ok-left.ensures.list ∙ ap (λ n. is_nothing (eliminate_last a 0 n s.lines).value) all
 
 pub returns-clause-points : goal.returns-clause-points
 returns-clause-points g c =
@@ -26,5 +24,4 @@ returns-clause-points g c =
     let l = c.in_ok-left.left in
     let all : s.width - 0 ≡ s.width = omega arith in
     let is : IsSystem a 0 l.lines = subst (λ n. IsSystem a n l.lines) c.in_ok-left.ensures.width c.rows.ensures.trimmed in
-    let some : not c.is_empty.result ≡ is_nothing l.lines = ap not (c.is_empty.ensures ∙ ap (λ (rs : PlainPiece). length rs == 0) c.rows.ensures.rows) ∙ row-nothing a l.lines is in
-    subst (IsEmptiness s.width s.lines) (sym some) (nothing-empty s.width s.lines l.lines is.wide (trimmed-tidy a l.lines is.trimmed) (subst (λ n. IsLastElimination 0 n s.lines l.lines) all c.in_ok-left.ensures.points))
+    subst (IsEmptiness s.width s.lines) (sym (shown-nothing a l.lines is c.is_empty.result c.rows.result.now c.is_empty.ensures c.rows.ensures.rows)) (nothing-empty s.width s.lines l.lines is.wide (trimmed-tidy a l.lines is.trimmed) (subst (λ n. IsLastElimination 0 n s.lines l.lines) all c.in_ok-left.ensures.points))

@@ -9,6 +9,6 @@ pub returns-clause-points : goal.returns-clause-points
 returns-clause-points g c =
     let m = g.N.Scalar.meaning in
     let a = g.N.Scalar.arithmetic in
-    let r : PlainRow = record { coefs = map m c.in_ok-from_slice.field-0.items; strict = is_strict c.row.inside.kind; bound = m c.in_ok-bound.bound } in
+    let r : PlainRow = record { coefs = map m c.shifted.inside.coefs.items; strict = is_strict c.shifted.inside.kind; bound = m c.in_ok-bound.bound } in
     let k : r ≡ (shift a c.args.row.now c.args.by.now (m c.args.m.now)).value = search rules in
     λ x e. ap (λ (q : PlainRow). holds_at q x) k ∙ shift-holds a c.args.row.now c.args.by.now (m c.args.m.now) x e
