@@ -7,6 +7,7 @@ use Rattle.lhg_lex.specs.Word.{is_digit}
 use Rattle.lhg_lex.specs.Digits.{is_run}
 use Rattle.lhg_lex.proofs.Fronts.{front_passes}
 use Rattle.lhg_lex.proofs.Runs.{run_from_digits}
+use Rattle.std.proofs.Math.Nat.{zero-add, suc-add}
 
 -- a text that begins with a digit has a run there
 first_run : (text : List ℕ) → 0 < length text → is_digit (get_or text 0 0) ≡ true → 0 < prefix_len is_digit text
@@ -16,14 +17,8 @@ first_run (b ∷ w) some h = rw h (omega arith)
 -- what stands before a byte, the byte, and what stands behind it
 pub take_more_than : (n k : ℕ) (text : List ℕ) → n < length text → take (suc (n + k)) text ≡ take n text ++ (get_or text n 0 ∷ take k (drop (suc n) text))
 take_more_than n k [] h = absurd (omega arith)
-take_more_than zero k (b ∷ w) h = rw (zero_plus k) refl
-  where
-    zero_plus : (k : ℕ) → 0 + k ≡ k
-    zero_plus k = omega arith
-take_more_than (suc n) k (b ∷ w) h = rw (suc_plus n k) (ap (λ z. b ∷ z) (take_more_than n k w (omega arith)))
-  where
-    suc_plus : (n k : ℕ) → suc n + k ≡ suc (n + k)
-    suc_plus n k = omega arith
+take_more_than zero k (b ∷ w) h = rw (zero-add k) refl
+take_more_than (suc n) k (b ∷ w) h = rw (suc-add n k) (ap (λ z. b ∷ z) (take_more_than n k w (omega arith)))
 
 -- the run of digits at the front
 pub record IsFirstRun (text : List ℕ) (n : ℕ) : Type 0 where

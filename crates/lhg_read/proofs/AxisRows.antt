@@ -6,6 +6,7 @@ use Rattle.lhg_math.specs.Number.{Number, nought, neg, unit}
 use Rattle.lhg_row.specs.Piece.{PlainPiece}
 use Rattle.lhg_plant.specs.Still.{axis, axis_row, still_from}
 use Rattle.lhg_read.specs.Keep.{change_row, keep_from}
+use Rattle.std.proofs.Math.Nat.{suc-add}
 
 -- one of n zeros is replaced
 pub axis_set : (n v : ℕ) (c : Number) → v < n → set (replicate n nought) v c ≡ axis n v c
@@ -25,10 +26,7 @@ set_right (x ∷ xs) ys i (suc k) c e = ap (λ zs. x ∷ zs) (set_right xs ys i 
 
 zeros_joined : (n m : ℕ) → replicate (n + m) nought ≡ replicate n nought ++ replicate m nought
 zeros_joined zero m = ap (λ k. replicate k nought) (zero-add m)
-zeros_joined (suc n) m = ap (λ k. replicate k nought) (later n m) ∙ ap (λ xs. nought ∷ xs) (zeros_joined n m)
-  where
-    later : (n m : ℕ) → suc n + m ≡ suc (n + m)
-    later n m = omega arith
+zeros_joined (suc n) m = ap (λ k. replicate k nought) (suc-add n m) ∙ ap (λ xs. nought ∷ xs) (zeros_joined n m)
 
 -- one of n zeros, and one of n further ones
 pub change_set : (n v : ℕ) (a b : Number) → v < n → set (set (replicate (n + n) nought) v a) (n + v) b ≡ axis n v a ++ axis n v b

@@ -6,7 +6,7 @@ use Rattle.std.proofs.lemmas.Bool.{and_parts, not-true}
 use Rattle.std.proofs.lemmas.List.{map-append}
 use Rattle.lhg_math.specs.Number.{Number, add, mul, lt, nought, quot}
 use Rattle.lhg_math.specs.NumberRing.{add_comm}
-use Rattle.lhg_math.specs.NumberOrder.{lt_antisymm, lt_irrefl, lt_asym, lt-mul, lt-mul_negative}
+use Rattle.lhg_math.specs.NumberOrder.{lt_antisymm, lt_irrefl, lt_asym, lt-mul, lt-mul_negative, mul_cancel, mul_cancel_negative}
 use Rattle.lhg_math.specs.Quotients.{mul-quot, abs_pos_of_lt, abs_pos_of_gt}
 use Rattle.lhg_math.specs.Signs.{size_of}
 use Rattle.lhg_math.specs.Tests.{by_bool, false_true, every_from_all, all_from_every}
@@ -29,7 +29,7 @@ use Rattle.lhg_row.specs.ColumnLaws.{bar_at, holds-insert, holds-drop_column, ho
 use Rattle.lhg_row.specs.WithoutLaws.{paired, paired_has_value, has_value_paired}
 use Rattle.lhg_row.specs.Combination.{up_down, down_up}
 use Rattle.lhg_row.specs.PairLaws.{IsPair, HasPair, pair_at-is, in_piece-beside, levels-beside, beside-wide}
-use Rattle.lhg_row.specs.PairPoints.{cancel_up, cancel_down, ArePair, are_pair}
+use Rattle.lhg_row.specs.PairPoints.{ArePair, are_pair}
 
 -- ---- the order of two rows in a combination
 entries_comm : (a : Arithmetic) (f g : Number) (cs ds : List Number) → (entries a f g cs ds).value ≡ (entries a g f ds cs).value
@@ -49,11 +49,11 @@ comb_comm a r s k =
 
 -- ---- a weak constraint that v meets with equality, and another
 quot_up : (c s v : Number) → lt nought c ≡ true → mul c v ≡ s → quot s c ≡ v
-quot_up c s v h e = cancel_up c (quot s c) v h (mul-quot s c (abs_pos_of_lt c h) ∙ sym e)
+quot_up c s v h e = mul_cancel c (quot s c) v h (mul-quot s c (abs_pos_of_lt c h) ∙ sym e)
 
 -- division undoes a product with a negative number
 quot_down : (c s v : Number) → lt c nought ≡ true → mul c v ≡ s → quot s c ≡ v
-quot_down c s v h e = cancel_down c (quot s c) v h (mul-quot s c (abs_pos_of_gt c h) ∙ sym e)
+quot_down c s v h e = mul_cancel_negative c (quot s c) v h (mul-quot s c (abs_pos_of_gt c h) ∙ sym e)
 
 -- an upper bar is met at the value that a weak lower one fixes where their pair stands
 upper_by : (u m : Bar) (v : Number) → lt nought u.coef ≡ true → lt m.coef nought ≡ true → m.strict ≡ false → mul m.coef v ≡ m.slack → stands (comb_bar u m) ≡ meets u v

@@ -4,7 +4,7 @@ use Rattle.std.proofs.Common.{refl, sym, ap, ◌∙◌}
 use Rattle.std.proofs.lemmas.Bool.{and_parts}
 use Rattle.lhg_math.specs.Number.{Number, add, mul, neg, lt, nought}
 use Rattle.lhg_math.specs.NumberRing.{mul_assoc, mul-add, mul-nought, mul-neg, neg-mul, neg_neg, neg_nought}
-use Rattle.lhg_math.specs.NumberOrder.{lt_antisymm, lt_irrefl, lt-mul, lt-mul_negative, lt-nought_neg, lt-neg}
+use Rattle.lhg_math.specs.NumberOrder.{lt-mul, lt-nought_neg, lt-neg, mul_cancel}
 use Rattle.lhg_math.specs.Signs.{is_nought, lead, same_number}
 use Rattle.lhg_math.specs.SignLaws.{nought_is, size_above, same_is, is_nought-nought}
 use Rattle.lhg_math.specs.Tests.{by_bool, false_true}
@@ -21,16 +21,6 @@ use Rattle.lhg_row.specs.Bars.{Bar}
 use Rattle.lhg_row.specs.ColumnLaws.{bar_at}
 
 -- ---- signs
--- a positive factor cancels
-pub cancel_up : (c x y : Number) → lt nought c ≡ true → mul c x ≡ mul c y → x ≡ y
-cancel_up c x y h e =
-    lt_antisymm x y (sym (lt-mul c x y h) ∙ ap (λ w. lt w (mul c y)) e ∙ lt_irrefl (mul c y)) (sym (lt-mul c y x h) ∙ ap (λ w. lt w (mul c x)) (sym e) ∙ lt_irrefl (mul c x))
-
--- and so does a negative one
-pub cancel_down : (c x y : Number) → lt c nought ≡ true → mul c x ≡ mul c y → x ≡ y
-cancel_down c x y h e =
-    lt_antisymm x y (sym (lt-mul_negative c y x h) ∙ ap (λ w. lt w (mul c x)) (sym e) ∙ lt_irrefl (mul c x)) (sym (lt-mul_negative c x y h) ∙ ap (λ w. lt w (mul c y)) e ∙ lt_irrefl (mul c y))
-
 -- f * c = -g * d for positive f and g
 module _ (f g c d : Number) (f_up : lt nought f ≡ true) (g_up : lt nought g ≡ true) (e : mul f c ≡ mul (neg g) d) where
   -- where positive factors make one number the negative of another, the one is above 0 exactly where the other is below
@@ -60,7 +50,7 @@ module _ (f g c d : Number) (f_up : lt nought f ≡ true) (g_up : lt nought g �
   -- d * v = t where c * v = s and the slacks stand to one another as the coefficients
   other_met : (s t v : Number) → mul f s ≡ mul (neg g) t → mul c v ≡ s → mul d v ≡ t
   other_met s t v h k =
-      cancel_up g (mul d v) t g_up
+      mul_cancel g (mul d v) t g_up
       (sym (neg_neg (mul g (mul d v))) ∙ ap neg (sym (neg-mul g (mul d v)) ∙ sym (mul_assoc (neg g) d v) ∙ ap (λ w. mul w v) (sym e) ∙ mul_assoc f c v ∙ ap (λ w. mul f w) k ∙ h ∙ neg-mul g t) ∙ neg_neg (mul g t))
 
 -- ---- from equal entries to coefficients and slacks
