@@ -1,7 +1,6 @@
+pub mod AnswerSteps
 pub mod Complete
-pub mod RegionTexts
-pub mod Reported
-pub mod SafeSteps
-pub mod SameRows
-pub mod StillPlaces
+pub mod GuardSteps
+pub mod Placed
 pub mod WholeInput
+pub mod WordSteps

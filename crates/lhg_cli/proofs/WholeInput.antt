@@ -12,7 +12,7 @@ use Rattle.lhg_read.specs.PlantText.{IsPlant, IsPlantText, IsSomePlantText}
 use Rattle.lhg_read.specs.Rest.{HasSurplus}
 use Rattle.lhg_read.specs.TokenText.{ReadsText, HasCause, fault_at}
 use Rattle.lhg_read.proofs.PlantEnds.{plant_text_laws}
-use Rattle.lhg_read.proofs.TokenTexts.{get_at}
+use Rattle.lhg_read.specs.FaultLaws.{get_at}
 use Rattle.lhg_cli.specs.Refusal.{IsBadAt, HasBadLine}
 
 -- the whole input is to be read

@@ -2,4 +2,4 @@ pub mod Answer
 pub mod Numbers
 pub mod PlantAnswer
 pub mod Refusal
-pub mod ReportText
+pub mod Words

@@ -1,64 +1,59 @@
--- Which text answers a plant, with which status?
-use Rattle.std.specs.Prelude.{◌≡◌, ◌≤◌, ℕ, List, [], true, codes}
+-- Which text answers a plant within a budget of rounds, with which status?
+use Rattle.std.specs.Prelude.{◌≡◌, ◌≤◌, ◌⊎◌, ℕ, Bool, false, List, ◌++◌, codes, decimal}
+use Rattle.lhg_num.specs.Marked.{Marked}
 use Rattle.lhg_plant.specs.Controller.{PlainController}
 use Rattle.lhg_plant.specs.Loss.{PlainLoss}
 use Rattle.lhg_plant.specs.Plant.{PlainPlant}
-use Rattle.lhg_plant.specs.SafeRegion.{safe_region}
-use Rattle.lhg_plant.specs.Solution.{IsSolution}
-use Rattle.lhg_plant.specs.Still.{IsStill, HasNoSwitch}
-use Rattle.lhg_text.specs.PlantText.{line}
-use Rattle.lhg_cli.specs.ReportText.{report_text}
+use Rattle.lhg_plant.specs.State.{PlainState}
+use Rattle.lhg_loss.specs.Iterate.{solution, solved, spent, work}
+use Rattle.lhg_loss.specs.StageFacts.{IsSolved, IsSpent}
+use Rattle.lhg_loss.specs.WorkLaws.{IsStopIn}
+use Rattle.lhg_row_text.specs.PrintedLine.{line}
+use Rattle.lhg_row_text.specs.PointText.{state_text}
+use Rattle.lhg_text.specs.ReportText.{report_text}
+use Rattle.lhg_text.specs.ReportLaws.{IsWrittenReport, SameReport}
 use Rattle.lhg_cli.specs.declared.status.Status.{Status}
 use Rattle.lhg_cli.specs.declared.status.Status.TheVariants as status
 
--- nothing moves in the plant: each location is still, and there is no switch
-abbrev pub IsTakenPlant : PlainPlant → Type 0
-IsTakenPlant a = IsStill a × HasNoSwitch a
-
--- the controller that the calculus gives: the safe region, without guards
-abbrev pub calculus_controller : PlainPlant → PlainController
-calculus_controller a = record { region = (safe_region a).value; guards = [] }
-
--- the text is the report of what solves the game of the plant, in at most 64 rounds; region, guards, rounds and records are those of
--- the calculus: the safe states after one round that removes nothing
-pub record IsReport (a : PlainPlant) (text : List ℕ) : Type 0 where
-  pub taken : IsTakenPlant a
+-- the text is the report of what solves the game of the plant within the budget; each report of the plant with this text has the same
+-- number of rounds, pieces, guard pieces and records; and region, guards, rounds and records are those of the calculus
+pub record IsReport (a : PlainPlant) (budget : ℕ) (text : List ℕ) : Type 0 where
   pub controller : PlainController
   pub rounds : ℕ
   pub losses : List PlainLoss
-  pub solved : IsSolution a controller rounds losses
-  pub within : rounds ≤ 64
   pub printed : text ≡ report_text a rounds controller losses
-  pub controller_is : controller ≡ calculus_controller a
-  pub rounds_are : rounds ≡ 1
-  pub losses_are : losses ≡ []
+  pub one_reading : (r : ℕ) (c : PlainController) (ls : List PlainLoss) → IsWrittenReport a r c ls → report_text a r c ls ≡ text → SameReport rounds controller losses r c ls
+  pub solves : IsSolved a budget controller rounds losses
+  pub calculus : solution a budget ≡ solved rounds controller.region controller.guards losses
 
--- something moves in the plant, and the answer says that such plants come later
-pub record IsLater (a : PlainPlant) (text : List ℕ) : Type 0 where
-  pub moves : ¬ IsTakenPlant a
-  pub printed : text ≡ line (codes "text line 0 Later")
+-- the work of round i has the mark of a limit, and the answer names the limit and the round
+pub record IsStopped (a : PlainPlant) (budget : ℕ) (limit : List ℕ) (mark : Marked (Unit {0}) → Bool) (text : List ℕ) : Type 0 where
+  pub round : ℕ
+  pub stop : IsStopIn a budget round mark
+  pub printed : text ≡ line (limit ++ codes " round " ++ decimal round)
 
--- a number of round 0 is past its limit, and the answer says so
-pub record IsWide (a : PlainPlant) (text : List ℕ) : Type 0 where
-  pub taken : IsTakenPlant a
-  pub past : (safe_region a).wide ≡ true
-  pub printed : text ≡ line (codes "wide round 0")
-
--- a list of rows of round 0 is past its limit, and the answer says so
-pub record HasManyRows (a : PlainPlant) (text : List ℕ) : Type 0 where
-  pub taken : IsTakenPlant a
-  pub past : (safe_region a).rows ≡ true
-  pub printed : text ≡ line (codes "rows round 0")
+-- each round up to the budget removes a state, and the answer names the budget and a state that the last one removes, which is that of the calculus
+pub record IsSpentText (a : PlainPlant) (budget : ℕ) (text : List ℕ) : Type 0 where
+  pub state : PlainState
+  pub removed : IsSpent a budget state
+  pub calculus : solution a budget ≡ spent state
+  pub printed : text ≡ line (codes "spent " ++ decimal budget) ++ line (codes "state " ++ state_text a state)
 
 -- the text that stands for the status
-abbrev pub IsPlantAnswer : PlainPlant → Status → List ℕ → Type 0
-IsPlantAnswer a status.Done text = IsReport a text
-IsPlantAnswer a status.No text = ⊥
-IsPlantAnswer a status.Words text = ⊥
-IsPlantAnswer a status.Text text = IsLater a text
-IsPlantAnswer a status.Wide text = IsWide a text
-IsPlantAnswer a status.Lists text = HasManyRows a text
-IsPlantAnswer a status.Spent text = ⊥
-IsPlantAnswer a status.Read text = ⊥
-IsPlantAnswer a status.Write text = ⊥
-IsPlantAnswer a status.Memory text = ⊥
+abbrev pub IsPlantAnswer : PlainPlant → ℕ → Status → List ℕ → Type 0
+IsPlantAnswer a budget status.Done text = IsReport a budget text
+IsPlantAnswer a budget status.No text = ⊥
+IsPlantAnswer a budget status.Words text = ⊥
+IsPlantAnswer a budget status.Text text = ⊥
+IsPlantAnswer a budget status.Wide text = IsStopped a budget (codes "wide") (λ m. m.wide) text
+IsPlantAnswer a budget status.Lists text = IsStopped a budget (codes "rows") (λ m. m.rows) text ⊎ IsStopped a budget (codes "pieces") (λ m. m.pieces) text
+IsPlantAnswer a budget status.Spent text = IsSpentText a budget text
+IsPlantAnswer a budget status.Read text = ⊥
+IsPlantAnswer a budget status.Write text = ⊥
+IsPlantAnswer a budget status.Memory text = ⊥
+
+-- the calculus is within its limits in the work of each round up to this one
+pub record IsWithinTo (a : PlainPlant) (budget round : ℕ) : Type 0 where
+  pub numbers : (i : ℕ) → i ≤ round → (work a budget i).wide ≡ false
+  pub rows : (i : ℕ) → i ≤ round → (work a budget i).rows ≡ false
+  pub pieces : (i : ℕ) → i ≤ round → (work a budget i).pieces ≡ false

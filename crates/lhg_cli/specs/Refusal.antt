@@ -8,7 +8,7 @@ use Rattle.lhg_lex.specs.declared.stops.What.{What}
 use Rattle.lhg_lex.specs.declared.stops.What.TheVariants.{BadByte, LongNumber, ZeroDenominator, NotHere}
 use Rattle.lhg_read.specs.PlantText.{IsSomePlantText}
 use Rattle.lhg_read.specs.TokenText.{fault_at}
-use Rattle.lhg_text.specs.PlantText.{line}
+use Rattle.lhg_row_text.specs.PrintedLine.{line}
 
 -- the name of an error
 abbrev pub what_text : What → List ℕ

@@ -1,11 +1,15 @@
-// Makes the answers of one line.
-ghost use Rattle.std.specs.Prelude.{◌≡◌, ◌++◌, IfOk, codes};
-ghost use Rattle.lhg_text.specs.PlantText.{line};
+// Makes the answers that are no report.
+ghost use Rattle.std.specs.Prelude.{◌≡◌, ◌<◌, ◌++◌, IfOk, codes, decimal, length};
+ghost use Rattle.lhg_plant.specs.Views.{plain_plant, plain_state};
+ghost use Rattle.lhg_row_text.specs.PointText.{state_text};
+ghost use Rattle.lhg_row_text.specs.PrintedLine.{line};
 ghost use Rattle.lhg_cli.specs.Refusal.{what_text, bad_line};
 ghost use Rattle.lhg_cli.specs.Answer.{usage_text};
 
 use itoa::Buffer;
 use lhg_lex::What;
+use lhg_plant::{Plant, State};
+use lhg_row_text::push_state;
 use std::alloc::{AllocError, Global};
 
 /// The usage line.
@@ -36,25 +40,36 @@ pub fn bad_line(alloc: Global, number: u32, what: What) -> Result<Vec<u8>, Alloc
     Ok(text)
 }
 
-/// The line that says that plants like that of the input come later.
-pub fn later(alloc: Global) -> Result<Vec<u8>, AllocError>
-    ensures { IfOk result (λ v. v.items ≡ line (codes "text line 0 Later")) }
+/// The line that says which limit was passed in the work of which round.
+pub fn past_limit(alloc: Global, limit: &[u8], round: u32) -> Result<Vec<u8>, AllocError>
+    ensures { IfOk result (λ v. v.items ≡ line (limit.now ++ codes " round " ++ decimal round)) }
 {
-    Vec::from_slice(alloc, b"text line 0 Later\n")
+    let mut buffer = Buffer::new();
+    let mut text = limit.to_vec(alloc)?;
+    text.extend_from_slice(b" round ")?;
+    text.extend_from_slice(buffer.format(round).as_bytes())?;
+    text.extend_from_slice(b"\n")?;
+    Ok(text)
 }
 
-/// The line that says that a number of round 0 is past its limit.
-pub fn wide(alloc: Global) -> Result<Vec<u8>, AllocError>
-    ensures { IfOk result (λ v. v.items ≡ line (codes "wide round 0")) }
+/// The lines that name a spent budget and a state that its last round removes.
+pub fn spent(
+    alloc: Global,
+    plant: &Plant,
+    budget: u32,
+    state: &State,
+) -> Result<Vec<u8>, AllocError>
+    requires place { state.now.loc < length plant.now.locs.items }
+    requires length { length state.now.at ≡ length plant.now.vars.items }
+    ensures { IfOk result (λ v. v.items ≡ line (codes "spent " ++ decimal budget) ++ line (codes "state " ++ state_text (plain_plant plant.now) (plain_state state.now))) }
 {
-    Vec::from_slice(alloc, b"wide round 0\n")
-}
-
-/// The line that says that a list of rows of round 0 is past its limit.
-pub fn many_rows(alloc: Global) -> Result<Vec<u8>, AllocError>
-    ensures { IfOk result (λ v. v.items ≡ line (codes "rows round 0")) }
-{
-    Vec::from_slice(alloc, b"rows round 0\n")
+    let mut buffer = Buffer::new();
+    let mut text = Vec::from_slice(alloc, b"spent ")?;
+    text.extend_from_slice(buffer.format(budget).as_bytes())?;
+    text.extend_from_slice(b"\nstate ")?;
+    push_state(&mut text, plant, state)?;
+    text.extend_from_slice(b"\n")?;
+    Ok(text)
 }
 
 // The name of an error, between a space and the end of the line.

@@ -3,13 +3,13 @@
 
 mod answers;
 mod input;
-mod pieces;
-mod safe;
+mod solving;
 mod status;
-mod still;
+mod telling;
 #[cfg(test)]
 mod tests;
 mod top;
+mod words;
 
 use lhg_io::{StdSink, StdSource};
 pub use status::Status;

@@ -1,15 +1,10 @@
 //! The program over ends in memory.
 use crate::{Status, lhg};
-use itoa::Buffer;
 use lhg_io::{MemSink, MemSource};
 use std::alloc::{AllocError, Global};
 use std::test::Fail;
 
 const PLAIN: &[u8] = b"lhg 1\nvars x\nloc only\ninv 0 <= x <= 8\nflow still\nsafe x <= 8\nend\n";
-
-const REPORT: &[u8] = b"report 1\nrounds 1\ncontroller 1\npiece only x >= 0, x <= 8\nend\nend\n";
-
-const NO_PIECE: &[u8] = b"report 1\nrounds 1\ncontroller 1\nend\nend\n";
 
 const USAGE: &[u8] = b"usage: lhg synth [N] | check | run | explain [N] | gen K\n";
 
@@ -42,88 +37,245 @@ fn run(
     Ok((status, sink.held().to_vec(alloc)?))
 }
 
-// What is a plant, and what is not, with the answers.
-const TEXTS: [(&[u8], Status, &[u8]); 18] = [
-    (PLAIN, Status::Done, REPORT),
+// What is asked of plants, with the answers.
+const PLANTS: [(&[&str], &[u8], Status, &[u8]); 28] = [
     (
+        &["synth"],
+        b"lhg 1\nvars x\nloc only\ninv 0 <= x <= 8\nflow still\nsafe x <= 8\nend\n",
+        Status::Done,
+        b"report 1\nrounds 1\ncontroller 1\npiece only x >= 0, x <= 8\nend\nend\n",
+    ),
+    (
+        &["synth"],
         b"lhg 1\nvars x\nloc only\ninv 5 <= x <= 9\nflow still\nsafe x <= 4\nend\n",
         Status::Done,
-        NO_PIECE,
+        b"report 1\nrounds 1\ncontroller 1\nend\nend\n",
     ),
     (
-        b"lhg 1\r\nvars\tx # degrees\r\n\r\nloc only\ninv 0.50 <= x & x <= 16/2\nsafe 007 >= x\nend",
-        Status::Done,
-        b"report 1\nrounds 1\ncontroller 1\npiece only x >= 1/2, x <= 7\nend\nend\n",
-    ),
-    (
+        &["synth"],
         b"lhg 1\nvars x y\nloc a\ninv 0 <= x <= 4, 0 <= y <= 4\nsafe x + y <= 2\nsafe y > 3\nloc b\ninv 0 <= x <= 4, 0 <= y <= 4\nend\n",
         Status::Done,
         b"report 1\nrounds 1\ncontroller 1\npiece a x >= 0, y >= 0, x + y <= 2\npiece a x >= 0, x <= 4, y > 3, y <= 4\nend\nend\n",
     ),
     (
-        b"lhg 1\nvars x\nloc void\ninv x < 0, x > 0\nsafe all\nloc none\ninv 0 <= x <= 10\nloc held\ninv 0 <= x <= 10\nsafe x <= 8\nend\n",
-        Status::Done,
-        b"report 1\nrounds 1\ncontroller 1\npiece held x >= 0, x <= 8\nend\nend\n",
-    ),
-    (
+        &["synth"],
         b"lhg 1\nvars x\nloc all\nsafe all\nend\n",
         Status::Done,
         b"report 1\nrounds 1\ncontroller 1\npiece all all\nend\nend\n",
     ),
     (
-        b"lhg 1\nvars x\nloc only\nflow x <= 0, -x <= 0\nsafe x > 1\nend\n",
-        Status::Done,
-        b"report 1\nrounds 1\ncontroller 1\npiece only x > 1\nend\nend\n",
-    ),
-    (
-        b"lhg 1\nvars x\nloc only\nflow -x <= 0, x <= 0\nsafe x > 1\nend\n",
-        Status::Text,
-        b"text line 0 Later\n",
-    ),
-    (
-        b"lhg 1\nvars x\nloc only\nflow x = 1\nsafe x <= 8\nend\n",
-        Status::Text,
-        b"text line 0 Later\n",
-    ),
-    (
-        b"lhg 1\nvars x\nloc only\nsafe x <= 8\nswitch s ctl only only keep\nend\n",
-        Status::Text,
-        b"text line 0 Later\n",
-    ),
-    (b"", Status::Text, b"text line 1 NotHere\n"),
-    (b"lhg 1\nvars x", Status::Text, b"text line 3 NotHere\n"),
-    (
-        b"lhg 1\nvars x\nloc only\ninv y <= 8\n",
-        Status::Text,
-        b"text line 4 NotHere\n",
-    ),
-    (
-        b"lhg 1\nvars x\nloc only\nend\n\n# the end\nend\n",
-        Status::Text,
-        b"text line 7 NotHere\n",
-    ),
-    (b"lhg 1\nvars x.\n", Status::Text, b"text line 2 BadByte\n"),
-    (
-        b"lhg 1\nvars x\nloc only\nsafe x <= 170141183460469231731687303715884105728\n",
-        Status::Text,
-        b"text line 4 LongNumber\n",
-    ),
-    (
-        b"lhg 1\nvars x\nloc only\nsafe x <= 1/0\n",
-        Status::Text,
-        b"text line 4 ZeroDenominator\n",
-    ),
-    (
+        &["synth"],
         b"lhg 1\nvars x\nloc only\nsafe 170141183460469231731687303715884105727*x <= 1/3\nend\n",
         Status::Wide,
         b"wide round 0\n",
     ),
+    (
+        &["synth"],
+        b"lhg 1\nvars x\nloc only\ninv 0 <= x <= 10\nflow x = 1\nsafe x <= 8\nend\n",
+        Status::Done,
+        b"report 1\nrounds 2\ncontroller 1\nend\nloss 1 round 1 only leave x >= 8, x <= 8\nloss 2 round 1 only flow 1 x >= 0, x < 8\nend\n",
+    ),
+    (
+        &["synth"],
+        b"lhg 1\nvars x\nloc heat\ninv 0 <= x <= 40\nflow 1 <= x <= 2\nsafe 18 <= x <= 22\nloc cool\ninv 0 <= x <= 40\nflow -2 <= x <= -1\nsafe 18 <= x <= 22\nswitch off ctl heat cool keep\nswitch on ctl cool heat keep\nend\n",
+        Status::Done,
+        b"report 1\nrounds 1\ncontroller 1\npiece heat x >= 18, x <= 22\npiece cool x >= 18, x <= 22\nguard off x >= 18, x <= 22\nguard on x >= 18, x <= 22\nend\nend\n",
+    ),
+    (
+        &["synth", "1"],
+        b"lhg 1\nvars x\nloc heat\ninv 0 <= x <= 40\nflow 1 <= x <= 2\nsafe 18 <= x <= 22\nloc cool\ninv 0 <= x <= 40\nflow -2 <= x <= -1\nsafe 18 <= x <= 22\nswitch off ctl heat cool keep\nswitch on ctl cool heat keep\nend\n",
+        Status::Done,
+        b"report 1\nrounds 1\ncontroller 1\npiece heat x >= 18, x <= 22\npiece cool x >= 18, x <= 22\nguard off x >= 18, x <= 22\nguard on x >= 18, x <= 22\nend\nend\n",
+    ),
+    (
+        &["synth"],
+        b"lhg 1\nvars x\nloc heat\ninv 0 <= x <= 40\nflow 1 <= x <= 2\nsafe 18 <= x <= 22\nloc cool\ninv 0 <= x <= 40\nflow -2 <= x <= -1\nsafe 18 <= x <= 22\nswitch off ctl heat cool x >= 23, keep\nswitch on ctl cool heat keep\nend\n",
+        Status::Done,
+        b"report 1\nrounds 3\ncontroller 1\nend\nloss 1 round 1 heat leave x >= 22, x <= 22\nloss 2 round 1 heat flow 1 x >= 18, x < 22\nloss 3 round 2 cool leave x >= 18, x <= 18\nloss 4 round 2 cool flow 3 x > 18, x <= 22\nend\n",
+    ),
+    (
+        &["synth", "3"],
+        b"lhg 1\nvars x\nloc heat\ninv 0 <= x <= 40\nflow 1 <= x <= 2\nsafe 18 <= x <= 22\nloc cool\ninv 0 <= x <= 40\nflow -2 <= x <= -1\nsafe 18 <= x <= 22\nswitch off ctl heat cool x >= 23, keep\nswitch on ctl cool heat keep\nend\n",
+        Status::Done,
+        b"report 1\nrounds 3\ncontroller 1\nend\nloss 1 round 1 heat leave x >= 22, x <= 22\nloss 2 round 1 heat flow 1 x >= 18, x < 22\nloss 3 round 2 cool leave x >= 18, x <= 18\nloss 4 round 2 cool flow 3 x > 18, x <= 22\nend\n",
+    ),
+    (
+        &["synth", "2"],
+        b"lhg 1\nvars x\nloc heat\ninv 0 <= x <= 40\nflow 1 <= x <= 2\nsafe 18 <= x <= 22\nloc cool\ninv 0 <= x <= 40\nflow -2 <= x <= -1\nsafe 18 <= x <= 22\nswitch off ctl heat cool x >= 23, keep\nswitch on ctl cool heat keep\nend\n",
+        Status::Spent,
+        b"spent 2\nstate cool x = 18\n",
+    ),
+    (
+        &["synth"],
+        b"lhg 1\nvars x\nloc run\ninv 0 <= x <= 10\nflow x = 1\nsafe x < 8\nloc rest\ninv 0 <= x <= 10\nsafe all\nswitch go ctl run rest x >= 8, keep\nend\n",
+        Status::Done,
+        b"report 1\nrounds 2\ncontroller 1\npiece rest x >= 0, x <= 10\nend\nloss 1 round 1 run leave x >= 0, x < 8\nend\n",
+    ),
+    (
+        &["synth"],
+        b"lhg 1\nvars x\nloc run\ninv 0 <= x <= 10\nflow x = 1\nsafe x < 8\nloc rest\ninv 0 <= x <= 10\nsafe all\nswitch go ctl run rest x >= 7, keep\nend\n",
+        Status::Done,
+        b"report 1\nrounds 1\ncontroller 1\npiece run x >= 0, x < 8\npiece rest x >= 0, x <= 10\nguard go x >= 7, x < 8\nend\nend\n",
+    ),
+    (
+        &["synth"],
+        b"lhg 1\nvars x\nloc run\ninv 0 <= x <= 10\nflow x = 1\nsafe all\nloc bad\ninv 0 <= x <= 10\nloc rest\ninv 0 <= x <= 10\nsafe all\nswitch hit env run bad x > 5, keep\nswitch go ctl run rest x > 5, keep\nend\n",
+        Status::Done,
+        b"report 1\nrounds 2\ncontroller 1\npiece rest x >= 0, x <= 10\nend\nloss 1 round 1 run env hit x > 5, x <= 10\nloss 2 round 1 run flow 1 x >= 5, x <= 5\nloss 3 round 1 run flow 2 x >= 0, x < 5\nend\n",
+    ),
+    (
+        &["synth"],
+        b"lhg 1\nvars x\nloc run\ninv 0 <= x <= 10\nflow x = 1\nsafe all\nloc bad\ninv 0 <= x <= 10\nloc rest\ninv 0 <= x <= 10\nsafe all\nswitch hit env run bad x > 5, keep\nswitch go ctl run rest x >= 5, keep\nend\n",
+        Status::Done,
+        b"report 1\nrounds 2\ncontroller 1\npiece run x >= 0, x <= 5\npiece rest x >= 0, x <= 10\nguard go x >= 5, x <= 5\nend\nloss 1 round 1 run env hit x > 5, x <= 10\nend\n",
+    ),
+    (
+        &["synth"],
+        b"lhg 1\nvars x\nloc run\ninv 0 <= x <= 10\nflow x = 1\nsafe x <= 8\nloc rest\ninv 0 <= x <= 10\nsafe x <= 5\nswitch go ctl run rest all\nend\n",
+        Status::Done,
+        b"report 1\nrounds 2\ncontroller 1\npiece rest x >= 0, x <= 5\nend\nloss 1 round 1 run leave x >= 8, x <= 8\nloss 2 round 1 run flow 1 x >= 0, x < 8\nend\n",
+    ),
+    (
+        &["synth"],
+        b"lhg 1\nvars x\nloc run\ninv 0 <= x <= 10\nflow x = 1\nsafe x <= 8\nloc rest\ninv 0 <= x <= 10\nsafe x <= 5\nswitch go ctl run rest x' <= 5\nend\n",
+        Status::Done,
+        b"report 1\nrounds 1\ncontroller 1\npiece run x >= 0, x <= 8\npiece rest x >= 0, x <= 5\nguard go x >= 0, x <= 8\nend\nend\n",
+    ),
+    (
+        &["synth"],
+        b"lhg 1\nvars x\nloc run\ninv 0 <= x <= 10\nflow x = 1\nsafe x <= 8\nloc rest\ninv 0 <= x <= 10\nsafe x <= 5\nswitch go pick run rest all\nend\n",
+        Status::Done,
+        b"report 1\nrounds 1\ncontroller 1\npiece run x >= 0, x <= 8\npiece rest x >= 0, x <= 5\nguard go x >= 0, x <= 8\nend\nend\n",
+    ),
+    (
+        &["synth"],
+        b"lhg 1\nvars x\nloc run\ninv 0 <= x <= 10\nflow x = 1\nsafe x <= 8\nloc rest\ninv 0 <= x <= 10\nsafe x <= 5\nswitch go pick run rest x' >= 6\nend\n",
+        Status::Done,
+        b"report 1\nrounds 2\ncontroller 1\npiece rest x >= 0, x <= 5\nend\nloss 1 round 1 run leave x >= 8, x <= 8\nloss 2 round 1 run flow 1 x >= 0, x < 8\nend\n",
+    ),
+    (
+        &["synth"],
+        b"lhg 1\nvars x\nloc a\ninv 0 <= x <= 10\nsafe all\nloc b\ninv 0 <= x <= 10\nsafe x <= 5\nswitch e env a b keep\nend\n",
+        Status::Done,
+        b"report 1\nrounds 2\ncontroller 1\npiece a x >= 0, x <= 5\npiece b x >= 0, x <= 5\nend\nloss 1 round 1 a env e x > 5, x <= 10\nend\n",
+    ),
+    (
+        &["synth", "1"],
+        b"lhg 1\nvars x\nloc a\ninv 0 <= x <= 10\nsafe all\nloc b\ninv 0 <= x <= 10\nsafe x <= 5\nswitch e env a b keep\nend\n",
+        Status::Spent,
+        b"spent 1\nstate a x = 10\n",
+    ),
+    (
+        &["synth", "64"],
+        b"lhg 1\nvars x\nloc grow\ninv x >= 0\nsafe x <= 1\nswitch double env grow grow x' = 2*x\nend\n",
+        Status::Spent,
+        b"spent 64\nstate grow x = 1/9223372036854775808\n",
+    ),
+    (
+        &["synth", "200"],
+        b"lhg 1\nvars x\nloc grow\ninv x >= 0\nsafe x <= 1\nswitch double env grow grow x' = 2*x\nend\n",
+        Status::Wide,
+        b"wide round 127\n",
+    ),
+    (
+        &["synth"],
+        b"lhg 1\nvars x\nloc void\ninv x < 0, x > 0\nsafe all\nloc none\ninv 0 <= x <= 10\nloc held\ninv 0 <= x <= 10\nflow x < 0, x > 0\nsafe x <= 8\nend\n",
+        Status::Done,
+        b"report 1\nrounds 1\ncontroller 1\npiece held x >= 0, x <= 8\nend\nend\n",
+    ),
+    (
+        &["synth"],
+        b"lhg 1\nvars x\nloc void\ninv x < 0, x > 0\nsafe 170141183460469231731687303715884105727*x <= 1/3\nend\n",
+        Status::Done,
+        b"report 1\nrounds 1\ncontroller 1\nend\nend\n",
+    ),
+    (
+        &["synth"],
+        b"lhg 1\r\nvars\tx\t# degrees\r\n\r\nloc heat\r\ninv 0 <= x <= 40\r\nflow 1.00 <= x <= 4/2\r\nsafe 18 <= x <= 22\r\n\t\r\nloc cool\r\ninv 0 <= x & x <= 40.0\r\nflow -2 <= x' <= -1\r\nsafe 18 <= x <= 22\r\nswitch off ctl heat cool keep\r\nswitch on ctl cool heat keep\r\nend\r\n",
+        Status::Done,
+        b"report 1\nrounds 1\ncontroller 1\npiece heat x >= 18, x <= 22\npiece cool x >= 18, x <= 22\nguard off x >= 18, x <= 22\nguard on x >= 18, x <= 22\nend\nend\n",
+    ),
+    (
+        &["synth"],
+        b"lhg 1\nvars x\nloc heat\ninv 0 <= x <= 170141183460469231731687303715884105727\nflow 1 <= x <= 2\nsafe 18 <= x <= 22\nloc cool\ninv 0 <= x <= 40\nflow -2 <= x <= -1\nsafe 18 <= x <= 22\nswitch off ctl heat cool keep\nswitch on ctl cool heat keep\nend\n",
+        Status::Done,
+        b"report 1\nrounds 1\ncontroller 1\npiece heat x >= 18, x <= 22\npiece cool x >= 18, x <= 22\nguard off x >= 18, x <= 22\nguard on x >= 18, x <= 22\nend\nend\n",
+    ),
+    (
+        &["synth"],
+        b"lhg 1\nvars x y\nloc run\ninv 0 <= x <= 1, 0 <= y <= 1\nsafe all\nloc bad\ninv 0 <= x <= 1, 0 <= y <= 1\nswitch hit env run bad 1*x + 1*x' + y' <= 1, 2*x + 2*x' + y' <= 1, 3*x + 3*x' + y' <= 1, 4*x + 4*x' + y' <= 1, 5*x + 5*x' + y' <= 1, 6*x + 6*x' + y' <= 1, 7*x + 7*x' + y' <= 1, 8*x + 8*x' + y' <= 1, 9*x + 9*x' + y' <= 1, 10*x + 10*x' + y' <= 1, 11*x + 11*x' + y' <= 1, 12*x + 12*x' + y' <= 1, 13*x + 13*x' + y' <= 1, 14*x + 14*x' + y' <= 1, 15*x + 15*x' + y' <= 1, 16*x + 16*x' + y' <= 1, 17*x + 17*x' + y' <= 1, 18*x + 18*x' + y' <= 1, 19*x + 19*x' + y' <= 1, 20*x + 20*x' + y' <= 1, 21*x + 21*x' + y' <= 1, 22*x + 22*x' + y' <= 1, 23*x + 23*x' + y' <= 1, 24*x + 24*x' + y' <= 1, 25*x + 25*x' + y' <= 1, 26*x + 26*x' + y' <= 1, 27*x + 27*x' + y' <= 1, 28*x + 28*x' + y' <= 1, 29*x + 29*x' + y' <= 1, 30*x + 30*x' + y' <= 1, 31*x + 31*x' + y' <= 1, -1*x' - y' <= 1, -2*x' - y' <= 1, -3*x' - y' <= 1, -4*x' - y' <= 1, -5*x' - y' <= 1, -6*x' - y' <= 1, -7*x' - y' <= 1, -8*x' - y' <= 1, -9*x' - y' <= 1, -10*x' - y' <= 1, -11*x' - y' <= 1, -12*x' - y' <= 1, -13*x' - y' <= 1, -14*x' - y' <= 1, -15*x' - y' <= 1, -16*x' - y' <= 1, -17*x' - y' <= 1, -18*x' - y' <= 1, -19*x' - y' <= 1, -20*x' - y' <= 1, -21*x' - y' <= 1, -22*x' - y' <= 1, -23*x' - y' <= 1, -24*x' - y' <= 1, -25*x' - y' <= 1, -26*x' - y' <= 1, -27*x' - y' <= 1, -28*x' - y' <= 1, -29*x' - y' <= 1, -30*x' - y' <= 1, -31*x' - y' <= 1\nend\n",
+        Status::Lists,
+        b"rows round 1\n",
+    ),
+];
+
+// What is no plant, with the answers.
+const TEXTS: [(&[&str], &[u8], Status, &[u8]); 9] = [
+    (
+        &["synth"],
+        b"lhg 1\nvars x\nloc heat\ninv 0 <= x <= 40\nflow 1 <= x <= 2\nsafe 18 <= x <= 22\nloc cool\ninv 0 <= x <= 40\nflow -2 <= x <= -1\nsafe 18 <= x <= 22\nswitch off ctl heat",
+        Status::Text,
+        b"text line 11 NotHere\n",
+    ),
+    (
+        &["synth"],
+        b"lhg 1\nvars x\nloc heat\ninv 0 <= x <= 40\nflow 1 <= x <= 2\nsafe 18 <= x <= 22\nloc cool\ninv 0 <= x <= 40\nflow -2 <= x <= -1\nsafe 18 <= x <= 22\nswitch off ctl heat cool keep\n",
+        Status::Text,
+        b"text line 12 NotHere\n",
+    ),
+    (
+        &["synth"],
+        b"lhg 1\nvars x\nloc heat\ninv 0 <= x <= 170141183460469231731687303715884105728\nflow 1 <= x <= 2\nsafe 18 <= x <= 22\nloc cool\ninv 0 <= x <= 40\nflow -2 <= x <= -1\nsafe 18 <= x <= 22\nswitch off ctl heat cool keep\nswitch on ctl cool heat keep\nend\n",
+        Status::Text,
+        b"text line 4 LongNumber\n",
+    ),
+    (
+        &["synth"],
+        b"lhg 1\nvars x\nloc heat\ninv 0 <= x <= 40\nflow x = 1/0\nsafe 18 <= x <= 22\nloc cool\ninv 0 <= x <= 40\nflow -2 <= x <= -1\nsafe 18 <= x <= 22\nswitch off ctl heat cool keep\nswitch on ctl cool heat keep\nend\n",
+        Status::Text,
+        b"text line 5 ZeroDenominator\n",
+    ),
+    (
+        &["synth"],
+        b"lhg 1\nvars x\nloc heat\ninv 0 <= x <= 40\nflow 1 <= x <= 2\nsafe 18 <= x <= 22\nloc cool\ninv 0 <= x <= 40\nflow -2 <= x <= -1\nsafe 18 <= x <= 22\nswitch off ctl heat warm keep\nswitch on ctl cool heat keep\nend\n",
+        Status::Text,
+        b"text line 11 NotHere\n",
+    ),
+    (
+        &["synth"],
+        b"lhg 1\nvars x\xff\nloc heat\ninv 0 <= x <= 40\nflow 1 <= x <= 2\nsafe 18 <= x <= 22\nloc cool\ninv 0 <= x <= 40\nflow -2 <= x <= -1\nsafe 18 <= x <= 22\nswitch off ctl heat cool keep\nswitch on ctl cool heat keep\nend\n",
+        Status::Text,
+        b"text line 2 BadByte\n",
+    ),
+    (&["synth"], b"", Status::Text, b"text line 1 NotHere\n"),
+    (
+        &["synth"],
+        b"lhg 1\nvars x\nloc only\nend\n\n# the end\nend\n",
+        Status::Text,
+        b"text line 7 NotHere\n",
+    ),
+    (
+        &["synth"],
+        b"lhg 1\nvars x.\n",
+        Status::Text,
+        b"text line 2 BadByte\n",
+    ),
 ];
 
 #[test]
+fn plants(rt: HostRuntime) -> Result<(), Fail> {
+    for (words, input, status, text) in PLANTS {
+        let (ended, written) = run(rt.alloc(), words, input, NEVER, NEVER)?;
+        assert_eq!(rt; ended, status);
+        assert_eq!(rt; written.as_slice(), text);
+    }
+    Ok(())
+}
+
+#[test]
 fn texts(rt: HostRuntime) -> Result<(), Fail> {
-    for (input, status, text) in TEXTS {
-        let (ended, written) = run(rt.alloc(), SYNTH, input, NEVER, NEVER)?;
+    for (words, input, status, text) in TEXTS {
+        let (ended, written) = run(rt.alloc(), words, input, NEVER, NEVER)?;
         assert_eq!(rt; ended, status);
         assert_eq!(rt; written.as_slice(), text);
     }
@@ -168,38 +320,5 @@ fn too_long(rt: HostRuntime) -> Result<(), Fail> {
     let (ended, written) = run(rt.alloc(), SYNTH, &input, NEVER, NEVER)?;
     assert_eq!(rt; ended, Status::Text);
     assert_eq!(rt; written.as_slice(), b"text line 0 TooLong\n".as_slice());
-    Ok(())
-}
-
-// Appends the row i * x + i * i * i * z + y <= 1, with another sign before the last two terms.
-fn push_row(text: &mut Vec<u8>, i: u32, sign: &[u8]) -> Result<(), AllocError> {
-    let mut buffer = Buffer::new();
-    text.extend_from_slice(buffer.format(i).as_bytes())?;
-    text.extend_from_slice(b"*x")?;
-    text.extend_from_slice(sign)?;
-    text.extend_from_slice(buffer.format(i.wrapping_mul(i).wrapping_mul(i)).as_bytes())?;
-    text.extend_from_slice(b"*z")?;
-    text.extend_from_slice(sign)?;
-    text.extend_from_slice(b"y <= 1")
-}
-
-// A plant whose invariant has 64 rows, of which the elimination of two variables makes more than a list may have.
-fn many_rows(alloc: Global) -> Result<Vec<u8>, AllocError> {
-    let mut text = b"lhg 1\nvars x z y\nloc a\nsafe all\ninv ".to_vec(alloc)?;
-    for i in 1..33 {
-        push_row(&mut text, i, b"+")?;
-        text.extend_from_slice(b",")?;
-        push_row(&mut text, i, b"-")?;
-        text.extend_from_slice(if i < 32 { b"," } else { b"\nend\n" })?;
-    }
-    Ok(text)
-}
-
-#[test]
-fn rows(rt: HostRuntime) -> Result<(), Fail> {
-    let input = many_rows(rt.alloc())?;
-    let (ended, written) = run(rt.alloc(), SYNTH, &input, NEVER, NEVER)?;
-    assert_eq!(rt; ended, Status::Lists);
-    assert_eq!(rt; written.as_slice(), b"rows round 0\n".as_slice());
     Ok(())
 }

@@ -1,64 +1,28 @@
 // The program over any source and sink: words, input, answer, status.
-ghost use Rattle.std.specs.Prelude.{◌≡◌, ◌≢◌, ◌≤◌, ◌<◌, ◌↔◌, ℕ, List, Some, map, length, take, string_bytes, IfOk, IfErr, IfSome, OnErr, ◌⊎◌, IsTrue};
-ghost use Rattle.std.specs.Io.KnownBytes.{Appends, IsAtEnd};
+ghost use Rattle.std.specs.Prelude.{◌≡◌, ◌≤◌, ◌<◌, ℕ, List, Some, map, length, take, string_bytes, IfOk, IfErr, IfSome, ◌⊎◌};
+ghost use Rattle.std.specs.Io.KnownBytes.{Appends};
 ghost use Rattle.lhg_io.specs.Faults.{Rose};
-ghost use Rattle.lhg_plant.specs.Views.{plain_plant};
-ghost use Rattle.lhg_cli.specs.Answer.{IsAnswer, EndsAt, IsAnswered, IsTaken, IsWithin, synth_words};
-ghost use Rattle.lhg_cli.specs.PlantAnswer.{IsPlantAnswer};
+ghost use Rattle.lhg_cli.specs.Answer.{IsAnswer, EndsAt, IsAnswered, IsPlantInput, IsSolvable, IsUsedUp};
+ghost use Rattle.lhg_cli.specs.Words.{AsksSynth, AreKnown, most_rounds};
 
 use crate::Status;
-use crate::answers::{bad_line, later, many_rows, too_long, usage, wide};
+use crate::answers::{bad_line, too_long, usage};
 use crate::input::read_input;
-use crate::pieces::report_of;
-use crate::safe::safe_region;
-use crate::still::is_still;
+use crate::solving::{Answer, solved};
+use crate::words::budget;
 use lhg_io::{INPUT_LIMIT, ReadAll, Sink, Source, read_all, write_all};
 use lhg_lex::ReadStop;
-use lhg_num::Halt;
-use lhg_plant::Plant;
 use std::alloc::{AllocError, Global};
 
-/// A status and its text.
-#[derive(Drop)]
-struct Answer {
-    status: Status,
-    text: Vec<u8>,
-}
-
-fn is_synth(words: &[String]) -> bool
-    ensures { IsTrue result ↔ (map (λ w. string_bytes w) words.now ≡ synth_words) }
-{
-    words.len() == 1 && words[0].as_str() == "synth"
-}
-
-// The answer to a plant.
-fn solved(alloc: Global, plant: &Plant) -> Result<Answer, AllocError>
-    ensures { IfOk result (λ a. IsPlantAnswer (plain_plant plant.now) a.status a.text.items) }
-{
-    if !is_still(alloc, plant)? {
-        let text = later(alloc)?;
-        return Ok(Answer {
-            status: Status::Text,
-            text,
-        });
-    }
-    let (status, text) = match safe_region(alloc, plant) {
-        Ok(region) => (Status::Done, report_of(alloc, plant, &region)?),
-        Err(Halt::Wide) => (Status::Wide, wide(alloc)?),
-        Err(Halt::Rows) => (Status::Lists, many_rows(alloc)?),
-        Err(Halt::Pieces) => unreachable!(),
-        Err(Halt::Memory) => return Err(AllocError),
-    };
-    Ok(Answer { status, text })
-}
-
-// The answer to the bytes of an input within the limit.
-fn synth(alloc: Global, bytes: &[u8]) -> Result<Answer, AllocError>
-    requires { length bytes.now ≤ INPUT_LIMIT }
-    ensures { IfOk result (λ a. IsAnswer synth_words (Some bytes.now) a.status a.text.items) }
+// The answer to the bytes of an input within the limit, for a budget of rounds.
+fn synth(alloc: Global, rounds: u32, bytes: &[u8]) -> Result<Answer, AllocError>
+    requires bytes { length bytes.now ≤ INPUT_LIMIT }
+    requires low { 1 ≤ rounds }
+    requires high { rounds ≤ most_rounds }
+    ensures { (words : List (List ℕ)) → AsksSynth words rounds → IfOk result (λ a. IsAnswer words (Some bytes.now) a.status a.text.items) }
 {
     match read_input(alloc, bytes) {
-        Ok(plant) => solved(alloc, &plant),
+        Ok(plant) => solved(alloc, &plant, rounds),
         Err(ReadStop::Bad { line, what, .. }) => {
             let text = bad_line(alloc, line, what)?;
             Ok(Answer {
@@ -73,12 +37,13 @@ fn synth(alloc: Global, bytes: &[u8]) -> Result<Answer, AllocError>
 // The answer to the words and the input, or the status with which nothing is written.
 fn answer_to<S: Source>(alloc: Global, words: &[String], source: &mut S) -> Result<Answer, Status>
     ensures ok { IfOk result (λ a. IsAnswer (map (λ w. string_bytes w) words.now) (S.left source.old) a.status a.text.items) }
-    ensures err { IfErr result (λ e. (e ≡ Status.Memory) ⊎ ((e ≡ Status.Read) × (map (λ w. string_bytes w) words.now ≡ synth_words))) }
+    ensures err { IfErr result (λ e. (e ≡ Status.Memory) ⊎ ((e ≡ Status.Read) × AreKnown (map (λ w. string_bytes w) words.now))) }
     ensures read { result ≡ Err Status.Read → Rose (S.faults source.old) (S.faults source.new) }
-    ensures unread { map (λ w. string_bytes w) words.now ≢ synth_words → source.new ≡ source.old }
+    ensures risen { S.faults source.old < S.faults source.new → result ≡ Err Status.Read }
+    ensures unread { ¬ AreKnown (map (λ w. string_bytes w) words.now) → source.new ≡ source.old }
     ensures ended { IfOk result (λ a. EndsAt (S.left source.old) (S.left source.new) a.status) }
 {
-    if !is_synth(words) {
+    let Some(rounds) = budget(words) else {
         return match usage(alloc) {
             Ok(text) => Ok(Answer {
                 status: Status::Words,
@@ -86,9 +51,9 @@ fn answer_to<S: Source>(alloc: Global, words: &[String], source: &mut S) -> Resu
             }),
             Err(_) => Err(Status::Memory),
         };
-    }
+    };
     match read_all(alloc, source, INPUT_LIMIT) {
-        Ok(bytes) => match synth(alloc, bytes.as_slice()) {
+        Ok(bytes) => match synth(alloc, rounds, bytes.as_slice()) {
             Ok(found) => Ok(found),
             Err(_) => Err(Status::Memory),
         },
@@ -118,20 +83,26 @@ pub fn lhg<S: Source, K: Sink>(
     ensures write { result ≡ Status.Write → (status : Status) × (text : List ℕ) × (n : ℕ) × IsAnswer (map (λ w. string_bytes w) words.now) (S.left source.old) status text
         × (n < length text) × Appends (K.held sink.old) (K.held sink.new) (take n text) × Rose (K.faults sink.old) (K.faults sink.new) }
     // the source has failed
-    ensures read { result ≡ Status.Read → (map (λ w. string_bytes w) words.now ≡ synth_words) × Rose (S.faults source.old) (S.faults source.new) }
+    ensures read { result ≡ Status.Read → AreKnown (map (λ w. string_bytes w) words.now) × Rose (S.faults source.old) (S.faults source.new) }
+    // where a count of faults is greater afterwards, the status says so
+    ensures read_risen { S.faults source.old < S.faults source.new → result ≡ Status.Read }
+    ensures write_risen { K.faults sink.old < K.faults sink.new → result ≡ Status.Write }
     ensures silent { (result ≡ Status.Read) ⊎ (result ≡ Status.Memory) → sink.new ≡ sink.old }
 
     // other words have the usage line as their answer, and the source is not read
-    ensures words { map (λ w. string_bytes w) words.now ≢ synth_words → (result ≡ Status.Words) ⊎ ((result ≡ Status.Write) ⊎ (result ≡ Status.Memory)) }
-    ensures unread { map (λ w. string_bytes w) words.now ≢ synth_words → source.new ≡ source.old }
+    ensures words { ¬ AreKnown (map (λ w. string_bytes w) words.now) → (result ≡ Status.Words) ⊎ ((result ≡ Status.Write) ⊎ (result ≡ Status.Memory)) }
+    ensures unread { ¬ AreKnown (map (λ w. string_bytes w) words.now) → source.new ≡ source.old }
     // an answer to the input was made of all of it, unless it is too long
     ensures ended { IsAnswered result → EndsAt (S.left source.old) (S.left source.new) result }
 
-    // where neither end fails, a plant in which nothing moves has its report, where the calculus stays within its limits, and
-    // any other input is refused, unless memory runs out
-    ensures complete { map (λ w. string_bytes w) words.now ≡ synth_words → IfSome (S.left source.old) (λ bytes. IsWithin bytes
+    // where neither end fails: a plant has its report, where some round within the budget removes nothing and the calculus stays within
+    // its limits; it has a state of the last round, where each round within the budget removes a state; and an input that is no plant is
+    // refused; unless memory runs out
+    ensures complete { (n : ℕ) → AsksSynth (map (λ w. string_bytes w) words.now) n → IfSome (S.left source.old) (λ bytes. IsSolvable bytes n
         → ¬ Rose (S.faults source.old) (S.faults source.new) → ¬ Rose (K.faults sink.old) (K.faults sink.new) → (result ≡ Status.Done) ⊎ (result ≡ Status.Memory)) }
-    ensures refused { map (λ w. string_bytes w) words.now ≡ synth_words → IfSome (S.left source.old) (λ bytes. ¬ IsTaken bytes
+    ensures used_up { (n : ℕ) → AsksSynth (map (λ w. string_bytes w) words.now) n → IfSome (S.left source.old) (λ bytes. IsUsedUp bytes n
+        → ¬ Rose (S.faults source.old) (S.faults source.new) → ¬ Rose (K.faults sink.old) (K.faults sink.new) → (result ≡ Status.Spent) ⊎ (result ≡ Status.Memory)) }
+    ensures refused { AreKnown (map (λ w. string_bytes w) words.now) → IfSome (S.left source.old) (λ bytes. ¬ IsPlantInput bytes
         → ¬ Rose (S.faults source.old) (S.faults source.new) → ¬ Rose (K.faults sink.old) (K.faults sink.new) → (result ≡ Status.Text) ⊎ (result ≡ Status.Memory)) }
 {
     match answer_to(alloc, words, source) {

@@ -6,3 +6,4 @@ pub mod BesideSteps
 pub mod EliminateSteps
 pub mod EmptySteps
 pub mod LastSteps
+pub mod WholeSteps

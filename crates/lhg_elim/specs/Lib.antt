@@ -1,1 +1,11 @@
+pub mod Alike
+pub mod AlikeRows
+pub mod AlikeTrim
+pub mod AlikeEliminate
+pub mod OneSign
 pub mod Pushed
+pub mod RowCounts
+pub mod SystemLaws
+pub mod Turned
+pub mod TurnedLaws
+pub mod WholeRowLaws

@@ -1,13 +1,15 @@
 // The search for two weak rows that are an equation.
-ghost use Rattle.std.specs.Prelude.{◌≡◌, ◌<◌, ◌+◌, length, drop};
+ghost use Rattle.std.specs.Prelude.{◌≡◌, ◌<◌, ◌+◌, true, length, map, drop};
 ghost use Rattle.lhg_num.specs.Halting.{IsWideBy};
 ghost use Rattle.lhg_row.specs.Width.{HasVariable};
 ghost use Rattle.lhg_row.specs.Eliminate as calculus;
+ghost use Rattle.lhg_elim.specs.OneSign.{SharesSign, one_sign};
 
 use crate::sides::is_level;
 use lhg_num::{Scalar, Wide};
 use lhg_row::Row;
 use lhg_row::scaling::{Sense, agree, agree_at, lead_size};
+use std::cmp::Ordering;
 
 /// The places of the first two weak rows over variable k that are an equation.
 pub(crate) fn pair<N: Scalar>(rows: &[Row<N>], k: usize) -> Result<Option<(usize, usize)>, Wide>
@@ -67,6 +69,9 @@ fn is_opposite<N: Scalar>(r: &Row<N>, s: &Row<N>) -> Result<bool, Wide>
     requires { length r.now.coefs ≡ length s.now.coefs }
     ensures { IsWideBy result (calculus.is_opposite N.arithmetic r.now s.now) (λ b. b) }
 {
+    if share_sign(&r.coefs, &s.coefs) {
+        return Ok(false);
+    }
     let f = lead_size(s);
     let g = lead_size(r);
     let along = agree(Sense::Opposite, &f, &g, &r.coefs, &s.coefs)?;
@@ -74,4 +79,28 @@ fn is_opposite<N: Scalar>(r: &Row<N>, s: &Row<N>) -> Result<bool, Wide>
         return Ok(false);
     }
     agree_at(Sense::Opposite, &f, &g, &r.bound, &s.bound)
+}
+
+// Whether two entries are both negative or both positive. Rows with such entries are no equation, whatever the products.
+fn share_sign<N: Scalar>(cs: &[N], ds: &[N]) -> bool
+    requires { length cs.now ≡ length ds.now }
+    ensures { result ≡ true → SharesSign (map N.meaning cs.now) (map N.meaning ds.now) }
+{
+    for i in 0..cs.len() {
+        if have_one_sign(&cs[i], &ds[i]) {
+            return true;
+        }
+    }
+    false
+}
+
+// Whether both numbers are negative or both are positive.
+fn have_one_sign<N: Scalar>(c: &N, d: &N) -> bool
+    ensures { result ≡ one_sign (N.meaning c.now) (N.meaning d.now) }
+{
+    match c.sign() {
+        Ordering::Less => d.sign().is_lt(),
+        Ordering::Equal => false,
+        Ordering::Greater => d.sign().is_gt(),
+    }
 }

@@ -2,6 +2,7 @@
 ghost use Rattle.std.specs.Prelude.{◌≡◌, IfOk, length};
 ghost use Rattle.lhg_row.specs.Width.{AllWide};
 
+use crate::elimination::eliminate_plain;
 use crate::{comb, eliminate, eliminate_last, is_empty};
 use lhg_num::{Frac, Halt};
 use lhg_row::{Kind, Row, System, trim, whole_row};
@@ -123,30 +124,81 @@ fn combines(rt: HostRuntime) -> Result<(), Fail> {
     Ok(())
 }
 
-// x and y times this number are at most 0 in sum.
-fn steep(alloc: Global, y: Frac) -> Result<Row<Frac>, Halt>
+// x and y times a number are at most a bound in sum: the number and the bound.
+type Slope = (Frac, Frac);
+
+fn slope(alloc: Global, line: &Slope) -> Result<Row<Frac>, Halt>
     ensures { IfOk result (λ r. length r.coefs ≡ 2) }
 {
+    let (y, bound) = *line;
     let coefs = [Frac::from(1), y].to_vec(alloc)?;
     Ok(Row {
         coefs,
         kind: Kind::Weak,
-        bound: Frac::from(0),
+        bound,
     })
+}
+
+fn slopes(alloc: Global, lines: &[Slope]) -> Result<System<Frac>, Halt>
+    ensures { IfOk result (λ s. s.width ≡ 2) }
+{
+    let mut rows = Vec::with_capacity(alloc, lines.len())?;
+    for line in lines {
+        rows.push(slope(alloc, line)?)?;
+    }
+    trim(alloc, 2, rows)
 }
 
 #[test]
 fn refuses_wide_numbers(rt: HostRuntime) -> Result<(), Fail> {
-    let upper = steep(rt.alloc(), Frac::new(i128::MAX, 1)?)?;
-    let lower = steep(rt.alloc(), Frac::from(-2))?;
-    let both = comb(rt.alloc(), &upper, &lower, 1);
+    let nothing = Frac::from(0);
+    let upper = (Frac::new(i128::MAX, 1)?, nothing);
+    let lower = (Frac::from(-2), nothing);
+    let r = slope(rt.alloc(), &upper)?;
+    let s = slope(rt.alloc(), &lower)?;
+    let both = comb(rt.alloc(), &r, &s, 1);
     assert_eq!(rt; both.err(), Some(Halt::Wide));
-    let mut rows = Vec::new(rt.alloc());
-    rows.push(upper)?;
-    rows.push(lower)?;
-    let sys = trim(rt.alloc(), 2, rows)?;
+    let sys = slopes(rt.alloc(), &[upper, lower])?;
     assert!(rt; sys.vars() == 2);
     assert_eq!(rt; eliminate(rt.alloc(), &sys, 1).err(), Some(Halt::Wide));
     assert_eq!(rt; is_empty(rt.alloc(), &sys), Err(Halt::Wide));
+    Ok(())
+}
+
+// Over whole rows the list is the one over fractions, also where the products of their denominators are refused.
+#[test]
+fn agrees_with_fractions(rt: HostRuntime) -> Result<(), Fail> {
+    let mut lines = Vec::new(rt.alloc());
+    for i in 1..=40 {
+        let bound = Frac::new(1, i)?;
+        lines.push((Frac::new(i, 1)?, bound))?;
+        lines.push((Frac::new(-i, 1)?, bound))?;
+    }
+    let sys = slopes(rt.alloc(), &lines)?;
+    assert!(rt; sys.vars() == 2);
+    let left = eliminate(rt.alloc(), &sys, 1)?;
+    let plain = eliminate_plain(rt.alloc(), &sys, 1)?;
+    assert_eq!(rt; left.rows().len(), plain.rows().len());
+    for (row, other) in left.rows().iter().zip(plain.rows()) {
+        assert_eq!(rt; shown(row), shown(other));
+    }
+    let far = 18_446_744_073_709_551_616;
+    let nothing = Frac::from(0);
+    let sys = slopes(
+        rt.alloc(),
+        &[
+            (Frac::new(1, far)?, nothing),
+            (Frac::new(-1, far + 1)?, nothing),
+        ],
+    )?;
+    assert!(rt; sys.vars() == 2);
+    let left = eliminate(rt.alloc(), &sys, 1)?;
+    assert_eq!(rt; left.rows().len(), 1);
+    assert_eq!(rt;
+        left.rows().first().map(shown),
+        Some((Some((1, 1)), Kind::Weak, (0, 1)))
+    );
+    let plain = eliminate_plain(rt.alloc(), &sys, 1);
+    assert_eq!(rt; plain.err(), Some(Halt::Wide));
     Ok(())
 }

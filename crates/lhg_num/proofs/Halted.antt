@@ -1,12 +1,12 @@
 -- A call that hands a halt on.
-use Rattle.std.proofs.Common.{◌≡◌, true, Result, Ok, Err, sym, ◌∙◌, subst}
+use Rattle.std.proofs.Common.{◌≡◌, Bool, true, false, cond, Result, Ok, Err, sym, ◌∙◌, subst}
 use Rattle.std.specs.Prelude.{IfOk}
 use Rattle.std.specs.Result.{IsErrAnd}
 use Rattle.lhg_num.specs.Marked.{Marked, IsRest}
 use Rattle.lhg_num.specs.MarkedLaws.{IsPart}
 use Rattle.lhg_num.specs.declared.refusals.Halt.{Halt}
 use Rattle.lhg_num.specs.declared.refusals.Halt.TheVariants.{Wide, Rows, Pieces, Memory}
-use Rattle.lhg_num.specs.Halting.{IsHaltedBy, IsHaltedByRows, IsHaltedByWide, IsHaltedByPieces, IsHaltedByMemory}
+use Rattle.lhg_num.specs.Halting.{Halts, of_all, of_rows, of_numbers, IsHalted, IsHaltedBy, IsHaltedByRows, IsHaltedByWide, IsHaltedByPieces}
 
 -- ---- from a word to a wider one
 -- from numbers to rows
@@ -54,62 +54,32 @@ rest_halts_rows (Err Pieces) whole rest f i h = h
 rest_halts_rows (Err Memory) whole rest f i h = h
 
 -- ---- a halt of a part is a halt of the whole
--- where both may halt for all
+-- what may come for a mark of the part may come for one of the whole
+tied : {X Y : Type 0} (b : Bool) → (X → Y) → cond b X ⊥ → cond b Y ⊥
+tied true f x = f x
+tied false f x = absurd x
+
+-- whatever both may halt for
+pub part_halts_for : (may : Halts) {T U A B : Type 0} (r : Result T Halt) (e : Halt) (m : Marked A) (f : T → A) (n : Marked B) (h : U → B)
+    → IsErrAnd r (λ d. d ≡ e) → IsHalted {T = U} may (Err e) n h → IsPart m n → IsHalted may r m f
+part_halts_for may (Ok x) e m f n h i k p = absurd i
+part_halts_for may {T} {U} {A} {B} (Err d) e m f n h i k p = subst (λ (w : Halt). IsHalted {T = T} may (Err w) m f) (sym i) (on e k)
+  where
+    on : (e : Halt) → IsHalted {T = U} may (Err e) n h → IsHalted {T = T} may (Err e) m f
+    on Wide k = tied may.wide p.wide k
+    on Rows k = tied may.rows p.rows k
+    on Pieces k = tied may.pieces p.pieces k
+    on Memory k = tt
+
+-- the same at the words that callers have
 pub part_halts : {T U A B : Type 0} (r : Result T Halt) (e : Halt) (m : Marked A) (f : T → A) (n : Marked B) (h : U → B)
     → IsErrAnd r (λ d. d ≡ e) → IsHaltedBy {T = U} (Err e) n h → IsPart m n → IsHaltedBy r m f
-part_halts (Ok x) e m f n h i k p = absurd i
-part_halts {T} {U} {A} {B} (Err d) e m f n h i k p = subst (λ (w : Halt). IsHaltedBy {T = T} (Err w) m f) (sym i) (on e k)
-  where
-    on : (e : Halt) → IsHaltedBy {T = U} (Err e) n h → IsHaltedBy {T = T} (Err e) m f
-    on Wide k = p.wide k
-    on Rows k = p.rows k
-    on Pieces k = p.pieces k
-    on Memory k = tt
+part_halts = part_halts_for of_all
 
--- where both may halt for numbers and rows
 pub part_halts_rows : {T U A B : Type 0} (r : Result T Halt) (e : Halt) (m : Marked A) (f : T → A) (n : Marked B) (h : U → B)
     → IsErrAnd r (λ d. d ≡ e) → IsHaltedByRows {T = U} (Err e) n h → IsPart m n → IsHaltedByRows r m f
-part_halts_rows (Ok x) e m f n h i k p = absurd i
-part_halts_rows {T} {U} {A} {B} (Err d) e m f n h i k p = subst (λ (w : Halt). IsHaltedByRows {T = T} (Err w) m f) (sym i) (on e k)
-  where
-    on : (e : Halt) → IsHaltedByRows {T = U} (Err e) n h → IsHaltedByRows {T = T} (Err e) m f
-    on Wide k = p.wide k
-    on Rows k = p.rows k
-    on Pieces k = k
-    on Memory k = tt
+part_halts_rows = part_halts_for of_rows
 
--- where both may halt for numbers
 pub part_halts_wide : {T U A B : Type 0} (r : Result T Halt) (e : Halt) (m : Marked A) (f : T → A) (n : Marked B) (h : U → B)
     → IsErrAnd r (λ d. d ≡ e) → IsHaltedByWide {T = U} (Err e) n h → IsPart m n → IsHaltedByWide r m f
-part_halts_wide (Ok x) e m f n h i k p = absurd i
-part_halts_wide {T} {U} {A} {B} (Err d) e m f n h i k p = subst (λ (w : Halt). IsHaltedByWide {T = T} (Err w) m f) (sym i) (on e k)
-  where
-    on : (e : Halt) → IsHaltedByWide {T = U} (Err e) n h → IsHaltedByWide {T = T} (Err e) m f
-    on Wide k = p.wide k
-    on Rows k = k
-    on Pieces k = k
-    on Memory k = tt
-
--- where both may halt for pieces
-pub part_halts_pieces : {T U A B : Type 0} (r : Result T Halt) (e : Halt) (m : Marked A) (f : T → A) (n : Marked B) (h : U → B)
-    → IsErrAnd r (λ d. d ≡ e) → IsHaltedByPieces {T = U} (Err e) n h → IsPart m n → IsHaltedByPieces r m f
-part_halts_pieces (Ok x) e m f n h i k p = absurd i
-part_halts_pieces {T} {U} {A} {B} (Err d) e m f n h i k p = subst (λ (w : Halt). IsHaltedByPieces {T = T} (Err w) m f) (sym i) (on e k)
-  where
-    on : (e : Halt) → IsHaltedByPieces {T = U} (Err e) n h → IsHaltedByPieces {T = T} (Err e) m f
-    on Wide k = k
-    on Rows k = k
-    on Pieces k = p.pieces k
-    on Memory k = tt
-
--- where both may halt for want of memory alone
-pub part_halts_memory : {T U A B : Type 0} (r : Result T Halt) (e : Halt) (m : Marked A) (f : T → A) (n : Marked B) (h : U → B)
-    → IsErrAnd r (λ d. d ≡ e) → IsHaltedByMemory {T = U} (Err e) n h → IsHaltedByMemory r m f
-part_halts_memory (Ok x) e m f n h i k = absurd i
-part_halts_memory {T} {U} {A} {B} (Err d) e m f n h i k = subst (λ (w : Halt). IsHaltedByMemory {T = T} (Err w) m f) (sym i) (on e k)
-  where
-    on : (e : Halt) → IsHaltedByMemory {T = U} (Err e) n h → IsHaltedByMemory {T = T} (Err e) m f
-    on Wide k = k
-    on Rows k = k
-    on Pieces k = k
-    on Memory k = tt
+part_halts_wide = part_halts_for of_numbers

@@ -6,6 +6,5 @@ pub mod Made
 pub mod Middles
 pub mod Orders
 pub mod Results
-pub mod Rows
 pub mod Same
 pub mod ScaledRows

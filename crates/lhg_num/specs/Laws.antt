@@ -6,7 +6,7 @@ use Rattle.lhg_math.specs.Tests.{all_of}
 use Rattle.lhg_num.specs.Arithmetic.{Arithmetic, IsLawful, IsMultiple, scaled}
 use Rattle.lhg_num.specs.Marked.{Marked, done, and_then, each, walk, IsRest}
 use Rattle.lhg_num.specs.MarkedLaws.{IsPart, IsBuilt}
-use Rattle.lhg_num.specs.Halting.{IsHaltedBy, IsHaltedByRows, IsHaltedByWide, IsHaltedByPieces, IsHaltedByMemory}
+use Rattle.lhg_num.specs.Halting.{Halts, IsHalted, IsHaltedByWide}
 use Rattle.lhg_num.specs.declared.refusals.Halt.{Halt}
 use Rattle.lhg_num.specs.declared.refusals.Halt.TheVariants.{Wide}
 
@@ -31,8 +31,4 @@ pub record MarkedLaws : Type 0 where
 -- a refused operation halts, and a halt of a part is one of the whole, whatever the call may halt for
 pub record HaltLaws : Type 0 where
   pub wide : (r : Result Number Halt) (m : Marked Number) (f : Number → Number) → IsErrAnd r (λ e. e ≡ Wide) → m.wide ≡ true → IsHaltedByWide r m f
-  pub all : (r : Result Number Halt) (e : Halt) (m n : Marked Number) (f h : Number → Number) → IsErrAnd r (λ d. d ≡ e) → IsHaltedBy {T = Number} (Err e) n h → IsPart m n → IsHaltedBy r m f
-  pub by_rows : (r : Result Number Halt) (e : Halt) (m n : Marked Number) (f h : Number → Number) → IsErrAnd r (λ d. d ≡ e) → IsHaltedByRows {T = Number} (Err e) n h → IsPart m n → IsHaltedByRows r m f
-  pub by_wide : (r : Result Number Halt) (e : Halt) (m n : Marked Number) (f h : Number → Number) → IsErrAnd r (λ d. d ≡ e) → IsHaltedByWide {T = Number} (Err e) n h → IsPart m n → IsHaltedByWide r m f
-  pub by_pieces : (r : Result Number Halt) (e : Halt) (m n : Marked Number) (f h : Number → Number) → IsErrAnd r (λ d. d ≡ e) → IsHaltedByPieces {T = Number} (Err e) n h → IsPart m n → IsHaltedByPieces r m f
-  pub by_memory : (r : Result Number Halt) (e : Halt) (m n : Marked Number) (f h : Number → Number) → IsErrAnd r (λ d. d ≡ e) → IsHaltedByMemory {T = Number} (Err e) n h → IsHaltedByMemory r m f
+  pub part : (may : Halts) (r : Result Number Halt) (e : Halt) (m n : Marked Number) (f h : Number → Number) → IsErrAnd r (λ d. d ≡ e) → IsHalted {T = Number} may (Err e) n h → IsPart m n → IsHalted may r m f

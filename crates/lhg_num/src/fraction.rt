@@ -1,5 +1,5 @@
 // A fraction in lowest terms.
-ghost use Rattle.std.specs.Prelude.{◌≡◌, pos, false, ◌||◌};
+ghost use Rattle.std.specs.Prelude.{◌≡◌, ◌<◌, ◌^◌, pos, false, ◌||◌, unsigned_abs, Some};
 ghost use Rattle.std.specs.Ordering.{int_eq};
 ghost use Rattle.lhg_math.specs.Number.{Number, whole, quot, inverse, half, mid};
 ghost use Rattle.lhg_math.specs.Signs.{is_nought, size_of};
@@ -99,14 +99,16 @@ impl Frac {
 
     /// The numerator in lowest terms.
     pub fn numer(&self) -> i128
-        ensures { result ≡ self.now.top }
+        ensures value { result ≡ self.now.top }
+        ensures short { unsigned_abs result < 2 ^ 127 }
     {
         self.numerator
     }
 
     /// The denominator in lowest terms.
     pub fn denom(&self) -> i128
-        ensures { result ≡ pos self.now.bottom }
+        ensures value { result ≡ pos self.now.bottom }
+        ensures short { unsigned_abs result < 2 ^ 127 }
     {
         self.denominator
     }
@@ -244,6 +246,18 @@ impl Scalar for Frac {
             Some((p, q)) => Ok(p.cmp(&q)),
             None => Err(Wide),
         }
+    }
+
+    fn to_frac(&self) -> Option<Frac>
+        ensures { result ≡ Some self.now }
+    {
+        Some(*self)
+    }
+
+    fn of_frac(value: &Frac) -> Option<Frac>
+        ensures { result ≡ Some value.now }
+    {
+        Some(*value)
     }
 
     fn canon(row: &mut [Frac]) -> Result<(), Wide> {

@@ -1,10 +1,11 @@
 // What every number type offers.
-ghost use Rattle.std.specs.Prelude.{◌≡◌, true, List, map, OnErr};
+ghost use Rattle.std.specs.Prelude.{◌≡◌, true, List, map, OnErr, IfSome};
 ghost use Rattle.lhg_math.specs.Number.{Number, add, sub, mul, neg, nought, unit, compare, sign_of};
 ghost use Rattle.lhg_math.specs.Signs.{is_nought, same_number};
 ghost use Rattle.lhg_num.specs.Arithmetic.{Arithmetic, IsLawful};
 ghost use Rattle.lhg_num.specs.Limits.{IsExact};
 
+use crate::fraction::Frac;
 use crate::refusals::Wide;
 use std::cmp::Ordering;
 
@@ -50,6 +51,14 @@ pub trait Scalar: Copy + PartialEq {
     /// The order of the two numbers.
     fn cmp(&self, other: &Self) -> Result<Ordering, Wide>
         ensures { IsExact result (arithmetic.refuses_cmp (meaning self.now) (meaning other.now)) (λ r. r ≡ compare (meaning self.now) (meaning other.now)) };
+
+    /// The number as a fraction, where there is one of 128 bits.
+    fn to_frac(&self) -> Option<Frac>
+        ensures { IfSome result (λ q. q ≡ meaning self.now) };
+
+    /// The number that a fraction is, where the type has it.
+    fn of_frac(value: &Frac) -> Option<Self>
+        ensures { IfSome result (λ x. meaning x ≡ value.now) };
 
     /// Makes a row the positive multiple of itself that stands for all its positive multiples.
     /// A row that is refused stays as it is.

@@ -11,11 +11,11 @@ use Rattle.lhg_math.specs.Places.{IsPlace, start_place}
 use Rattle.lhg_row.specs.Row.{PlainPoint, row_value}
 use Rattle.lhg_row.specs.Piece.{InPiece, InSome}
 use Rattle.lhg_row.specs.Decisions.{clash}
-use Rattle.lhg_row.specs.Flow.{IsFlow}
-use Rattle.lhg_row.specs.Play.{PlainMove}
-use Rattle.lhg_row.specs.PlayLemmas.{earlier_one}
-use Rattle.lhg_row.specs.Segment.{along}
-use Rattle.lhg_row.specs.SegmentLemmas.{along_start}
+use Rattle.lhg_motion.specs.Flow.{IsFlow}
+use Rattle.lhg_motion.specs.Play.{PlainMove}
+use Rattle.lhg_motion.specs.PlayLemmas.{earlier_one}
+use Rattle.lhg_motion.specs.Segment.{along}
+use Rattle.lhg_motion.specs.SegmentLemmas.{along_start}
 use Rattle.lhg_plant.specs.declared.plants.Side.TheVariants.{Ctl, Env}
 use Rattle.lhg_plant.specs.State.{PlainState, IsState, IsSafe, moved_to}
 use Rattle.lhg_plant.specs.Legal.{LegalSwitch}

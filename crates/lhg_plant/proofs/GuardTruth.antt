@@ -4,11 +4,11 @@ use Rattle.std.proofs.lemmas.Bool.Decides.{nat_tests}
 use Rattle.lhg_math.specs.Number.{Number}
 use Rattle.lhg_row.specs.Row.{PlainRow, PlainPoint}
 use Rattle.lhg_row.specs.Piece.{PlainPiece}
-use Rattle.lhg_row.specs.Segment.{along}
-use Rattle.lhg_row.specs.CheckPoint.{rows_of, AreNeighbours, IsBetween}
+use Rattle.lhg_motion.specs.Segment.{along}
+use Rattle.lhg_motion.specs.CheckPoint.{rows_of, AreNeighbours, IsBetween}
 use Rattle.lhg_row.specs.Members.{all_split}
 use Rattle.lhg_math.specs.Tests.{AllOf}
-use Rattle.lhg_row.specs.CheckLemmas.{neighbours_truth, some_carried, inside_place}
+use Rattle.lhg_motion.specs.CheckLemmas.{neighbours_truth, some_carried, inside_place}
 use Rattle.lhg_plant.specs.Plant.{PlainPlant, PlainSwitch}
 use Rattle.lhg_plant.specs.State.{PlainState}
 use Rattle.lhg_plant.specs.Legal.{LegalFlow}

@@ -11,8 +11,8 @@ use Rattle.lhg_num.specs.Marked.{Marked}
 use Rattle.lhg_row.specs.Row.{PlainRow, PlainPoint, row_value, holds_at}
 use Rattle.lhg_row.specs.Piece.{PlainPiece, InPiece, in_piece}
 use Rattle.lhg_row.specs.PieceLemmas.{in_piece_is}
-use Rattle.lhg_row.specs.Flow.{displacement, times, IsFlow}
-use Rattle.lhg_row.specs.SpeedLemmas.{speed_flow}
+use Rattle.lhg_motion.specs.Flow.{displacement, times, IsFlow}
+use Rattle.lhg_motion.specs.SpeedLemmas.{speed_flow}
 use Rattle.lhg_row.specs.MarkedTests.{marked_all-value}
 use Rattle.lhg_row.specs.Truths.{piece_truth, piece_truth-value}
 use Rattle.lhg_row.specs.Values.{marked_value, fits_order, with_bound}

@@ -4,9 +4,9 @@ use Rattle.lhg_math.specs.Number.{Number}
 use Rattle.lhg_row.specs.Row.{PlainPoint}
 use Rattle.lhg_row.specs.Piece.{InPiece}
 use Rattle.lhg_row.specs.PieceLemmas.{piece_decided}
-use Rattle.lhg_row.specs.SpeedLemmas.{flow_decided}
+use Rattle.lhg_motion.specs.SpeedLemmas.{flow_decided}
 use Rattle.lhg_plant.specs.declared.plants.Side.{Side}
-use Rattle.lhg_plant.specs.declared.plants.Side.TheVariants.{Ctl, Env}
+use Rattle.lhg_plant.specs.declared.plants.Side.TheVariants.{Ctl, Env, Pick}
 use Rattle.lhg_plant.specs.Plant.{PlainPlant}
 use Rattle.lhg_plant.specs.State.{PlainState}
 use Rattle.lhg_plant.specs.Legal.{LegalFlow, LegalSwitch}
@@ -16,7 +16,7 @@ use Rattle.lhg_plant.specs.Log.{AllLegalFrom, IsLegalLog, IsIllegalFrom, IsFirst
 use Rattle.lhg_row.specs.Decisions.{nat_decided}
 use Rattle.lhg_plant.proofs.Decided.{state_decided, region_decided}
 use Rattle.lhg_plant.proofs.Options.{some_decided_by, some_there, there_some, find_some, none_there}
-use Rattle.lhg_plant.proofs.StaysInside.{IsKept, resting_kept, entry_kept}
+use Rattle.lhg_plant.proofs.StaysInside.{MayPick, IsKept, resting_kept, entry_kept}
 use Rattle.lhg_plant.proofs.RunExists.{entry_does}
 use Rattle.lhg_plant.proofs.RunDetermined.{does_once}
 
@@ -56,6 +56,7 @@ legal_switch_decided a e s z =
 side_decided : (s : Side) → (s ≡ Env) ⊎ ¬ (s ≡ Env)
 side_decided Ctl = inr (λ e. cc)
 side_decided Env = inl refl
+side_decided Pick = inr (λ e. cc)
 
 -- a switch is pending or none is
 pending_decided : (o : Option ℕ) → (o ≡ None) ⊎ ((e : ℕ) × (o ≡ Some e))
@@ -90,7 +91,7 @@ entry_decided a r (land_entry y) =
       ]
     ]
 
-module _ (a : PlainPlant) (c : PlainController) (valid : IsValid a c) where
+module _ (a : PlainPlant) (c : PlainController) (valid : IsValid a c) (fit : MayPick a c) where
   -- from each place that a run keeps all entries are legal, or one is the first that is not
   log_from : (r : RunPlace) (entries : List PlainEntry) → IsKept a c r → AllLegalFrom a c r entries ⊎ ((k : ℕ) × IsIllegalFrom a c r entries k)
   log_from r [] kept = inl tt
@@ -98,8 +99,8 @@ module _ (a : PlainPlant) (c : PlainController) (valid : IsValid a c) where
       elim (entry_decided a r entry) [
         | inr n ↦ inr (zero, n)
         | inl legal ↦
-            (let does = entry_does a c valid r entry kept legal in
-            elim (log_from does.1 rest (entry_kept a c valid r entry does.0 does.1 kept legal does.2).0) [
+            (let does = entry_does a c valid fit r entry kept legal in
+            elim (log_from does.1 rest (entry_kept a c valid fit r entry does.0 does.1 kept legal does.2).0) [
               | inl all ↦ inl (legal, λ steps next d. subst (λ (w : RunPlace). AllLegalFrom a c w rest) (does_once a c r entry does.0 steps does.1 next does.2 d).1 all)
               | inr bad ↦ inr (suc bad.0, (legal, does.0, does.1, does.2, bad.1))
             ])

@@ -4,10 +4,10 @@ use Rattle.lhg_math.specs.Number.{lt, nought}
 use Rattle.lhg_math.specs.NumberOrder.{lt_antisymm}
 use Rattle.lhg_math.specs.Places.{IsInner}
 use Rattle.lhg_math.specs.Tests.{by_bool}
-use Rattle.lhg_row.specs.SegmentLemmas.{along_start}
+use Rattle.lhg_motion.specs.SegmentLemmas.{along_start}
 use Rattle.lhg_row.specs.Piece.{PlainPiece}
-use Rattle.lhg_row.specs.Play.{PlainMove}
-use Rattle.lhg_row.specs.PlayLemmas.{earlier_one}
+use Rattle.lhg_motion.specs.Play.{PlainMove}
+use Rattle.lhg_motion.specs.PlayLemmas.{earlier_one}
 use Rattle.lhg_plant.specs.Plant.{PlainPlant}
 use Rattle.lhg_plant.specs.State.{PlainState, IsState, moved_to}
 use Rattle.lhg_plant.specs.Legal.{LegalFlow, IsPlayFrom}

@@ -1,8 +1,8 @@
 -- Out shrinks and Back grows when the set grows, so an escape from a set is one from each smaller set.
 use Rattle.std.proofs.Common.{inl, inr, ℕ, slice_get}
-use Rattle.lhg_row.specs.PlayLemmas.{earlier_weaken}
+use Rattle.lhg_motion.specs.PlayLemmas.{earlier_weaken}
 use Rattle.lhg_plant.specs.declared.plants.Side.{Side}
-use Rattle.lhg_plant.specs.declared.plants.Side.TheVariants.{Ctl, Env}
+use Rattle.lhg_plant.specs.declared.plants.Side.TheVariants.{Ctl, Env, Pick}
 use Rattle.lhg_plant.specs.Plant.{PlainPlant}
 use Rattle.lhg_plant.specs.State.{PlainState, IsState, moved_to}
 use Rattle.lhg_plant.specs.OutBack.{Out, StaysBy, BackBy, Back}
@@ -13,12 +13,14 @@ use Rattle.lhg_plant.proofs.Options.{some_weaken}
 pub stays_is_state : (side : Side) (a : PlainPlant) (S : PlainState → Type 0) (e : ℕ) (s : PlainState) → StaysBy side a S e s → IsState a s
 stays_is_state Ctl a S e s h = h.0.1.start
 stays_is_state Env a S e s h = absurd h
+stays_is_state Pick a S e s h = h.1.start
 
 -- what stays in a set by a switch stays in each larger set
 stays_grows : (side : Side) (a : PlainPlant) (T S : PlainState → Type 0) → ((s : PlainState) → T s → S s) → (e : ℕ) (s : PlainState)
     → StaysBy side a T e s → StaysBy side a S e s
 stays_grows Ctl a T S f e s h = (h.0, λ z legal. f z (h.1 z legal))
 stays_grows Env a T S f e s h = h
+stays_grows Pick a T S f e s h = (h.0, h.1, f h.0 h.2)
 
 module _ (a : PlainPlant) (T S : PlainState → Type 0) (within : (s : PlainState) → T s → S s) where
   pub out_shrinks : (s : PlainState) → Out a S s → Out a T s

@@ -6,17 +6,17 @@ use Rattle.lhg_math.specs.Interpolate.{interpolate, interpolate-lt, interpolate_
 use Rattle.lhg_math.specs.Places.{IsPlace}
 use Rattle.lhg_math.specs.Tests.{by_bool}
 use Rattle.lhg_row.specs.Row.{PlainPoint}
-use Rattle.lhg_row.specs.Segment.{along}
-use Rattle.lhg_row.specs.SegmentLemmas.{along_start}
-use Rattle.lhg_row.specs.Join.{flow_upto}
-use Rattle.lhg_row.specs.Play.{PlainMove}
-use Rattle.lhg_row.specs.PlayLemmas.{earlier_one}
-use Rattle.lhg_row.specs.CheckPoint.{IsBetween}
+use Rattle.lhg_motion.specs.Segment.{along}
+use Rattle.lhg_motion.specs.SegmentLemmas.{along_start}
+use Rattle.lhg_motion.specs.Join.{flow_upto}
+use Rattle.lhg_motion.specs.Play.{PlainMove}
+use Rattle.lhg_motion.specs.PlayLemmas.{earlier_one}
+use Rattle.lhg_motion.specs.CheckPoint.{IsBetween}
 use Rattle.lhg_row.specs.Decisions.{clash}
 use Rattle.lhg_row.specs.Members.{all_some}
-use Rattle.lhg_row.specs.CheckList.{CheckPlace}
-use Rattle.lhg_row.specs.CheckPlaces.{AllChecks, all_checks, Least, find_least, only_middle, check_is_place, mid_between}
-use Rattle.lhg_row.specs.Enclose.{enclose}
+use Rattle.lhg_motion.specs.CheckList.{CheckPlace}
+use Rattle.lhg_motion.specs.CheckPlaces.{AllChecks, all_checks, Least, find_least, only_middle, check_is_place, mid_between}
+use Rattle.lhg_motion.specs.Enclose.{enclose}
 use Rattle.lhg_plant.specs.Plant.{PlainPlant}
 use Rattle.lhg_plant.specs.State.{PlainState, moved_to}
 use Rattle.lhg_plant.specs.Legal.{LegalFlow}

@@ -1,14 +1,18 @@
 -- A run is determined by the controller, the start and the entries.
-use Rattle.std.proofs.Common.{◌≡◌, ◌<◌, inl, inr, ℕ, List, [], ◌∷◌, ◌++◌, Some, sym, ap, ◌∙◌, subst, arith, false}
+use Rattle.std.proofs.Common.{◌≡◌, ◌<◌, inl, inr, ℕ, List, [], ◌∷◌, ◌++◌, Option, Some, None, IsSomeAnd, slice_get, sym, ap, ◌∙◌, subst, arith, false}
 use Rattle.lhg_math.specs.Number.{Number, lt}
 use Rattle.lhg_math.specs.NumberOrder.{lt_antisymm}
 use Rattle.lhg_math.specs.Tests.{by_bool}
 use Rattle.lhg_row.specs.Row.{PlainPoint}
-use Rattle.lhg_plant.specs.Plant.{PlainPlant}
+use Rattle.lhg_plant.specs.declared.plants.Side.TheVariants.{Ctl, Pick}
+use Rattle.lhg_plant.specs.Plant.{PlainPlant, PlainSwitch}
 use Rattle.lhg_plant.specs.State.{PlainState}
 use Rattle.lhg_plant.specs.Controller.{PlainController}
+use Rattle.lhg_plant.specs.Legal.{HasSide}
 use Rattle.lhg_plant.specs.Region.{PlainGuards}
-use Rattle.lhg_plant.specs.Run.{PlainEntry, flow_entry, env_entry, land_entry, PlainStep, started, switched, landed, RunPlace, resting, result_at, state_along, run_flow, IsFirstOutside, IsFirstGuard, StopsAt, DoesEntry, RunsFrom, IsRun}
+use Rattle.lhg_plant.specs.Pick.{picked_result}
+use Rattle.lhg_plant.specs.Run.{PlainEntry, flow_entry, env_entry, land_entry, PlainStep, started, switched, landed, RunPlace, resting, result_at, state_along, run_flow, PassesWhole, IsFirstOutside, IsFirstGuard, StopsAt, DoesEntry, RunsFrom, IsRun}
+use Rattle.lhg_plant.proofs.Picks.{some_point}
 use Rattle.lhg_plant.proofs.StaysInside.{same_number}
 
 -- there is one first check point outside
@@ -43,13 +47,26 @@ stop_switch_once : (a : PlainPlant) (c : PlainController) (s : PlainState) (y : 
     → StopsAt a c s y q e → d ≡ e
 stop_switch_once a c s y p q d e same h k = guard_once a c.guards (state_along s y q) d e (subst (λ (w : Number). IsFirstGuard a c.guards (state_along s y w) d) same h.guard) k.guard
 
--- the steps of a flow that is stopped
+-- a flow that passes whole is not stopped
+pass_or_stop : {P : Type 0} (a : PlainPlant) (c : PlainController) (s : PlainState) (y : PlainPoint) (p : Number) (e : ℕ) → PassesWhole a c s y → StopsAt a c s y p e → P
+pass_or_stop a c s y p e whole stop = absurd (stop.first.outside (whole stop.end_place stop.first.check))
+
+-- a switch has one side
+one_side : (o : Option PlainSwitch) → IsSomeAnd o (λ w. w.side ≡ Ctl) → IsSomeAnd o (λ w. w.side ≡ Pick) → ⊥
+one_side None h k = h
+one_side (Some w) h k = cc
+
+-- the steps of a flow that is stopped by a switch that is then pending
 abbrev stop_steps : PlainState → Number → PlainPoint → Number → ℕ → List PlainStep
 stop_steps s t y p e = run_flow s t y p ++ (switched e ∷ [])
 
 -- where the run stands after it
 abbrev stop_next : PlainState → PlainPoint → Number → ℕ → RunPlace
 stop_next s y p e = record { state = state_along s y p; pending = Some e }
+
+-- the steps of a flow that is stopped by a switch whose result is picked
+abbrev pick_steps : PlainPlant → PlainState → Number → PlainPoint → Number → ℕ → PlainPoint → List PlainStep
+pick_steps a s t y p e z = run_flow s t y p ++ (switched e ∷ landed (result_at a e z) ∷ [])
 
 -- two answers are the same
 abbrev Same : List PlainStep → RunPlace → List PlainStep → RunPlace → Type 0
@@ -59,13 +76,33 @@ Same steps next made there = (steps ≡ made) × (next ≡ there)
 pub does_once : (a : PlainPlant) (c : PlainController) (r : RunPlace) (entry : PlainEntry) (steps made : List PlainStep) (next there : RunPlace)
     → DoesEntry a c r entry steps next → DoesEntry a c r entry made there → Same steps next made there
 does_once a c r (flow_entry t y) steps made next there (inl h) (inl k) = (h.does ∙ sym k.does, h.goes ∙ sym k.goes)
-does_once a c r (flow_entry t y) steps made next there (inl h) (inr k) = absurd (k.stops.first.outside (h.whole k.stops.end_place k.stops.first.check))
-does_once a c r (flow_entry t y) steps made next there (inr h) (inl k) = absurd (h.stops.first.outside (k.whole h.stops.end_place h.stops.first.check))
-does_once a c r (flow_entry t y) steps made next there (inr h) (inr k) =
+does_once a c r (flow_entry t y) steps made next there (inl h) (inr (inl k)) = pass_or_stop a c r.state y k.place k.switch h.whole k.stops
+does_once a c r (flow_entry t y) steps made next there (inl h) (inr (inr k)) = pass_or_stop a c r.state y k.place k.switch h.whole k.stops
+does_once a c r (flow_entry t y) steps made next there (inr (inl h)) (inl k) = pass_or_stop a c r.state y h.place h.switch k.whole h.stops
+does_once a c r (flow_entry t y) steps made next there (inr (inr h)) (inl k) = pass_or_stop a c r.state y h.place h.switch k.whole h.stops
+does_once a c r (flow_entry t y) steps made next there (inr (inl h)) (inr (inl k)) =
     let p = stop_place_once a c r.state y h.place k.place h.switch k.switch h.stops k.stops in
     let e = stop_switch_once a c r.state y h.place k.place h.switch k.switch p h.stops k.stops in (
       h.does ∙ ap (λ w. stop_steps r.state t y w h.switch) p ∙ ap (λ (w : ℕ). stop_steps r.state t y k.place w) e ∙ sym k.does,
       h.goes ∙ ap (λ w. stop_next r.state y w h.switch) p ∙ ap (λ (w : ℕ). stop_next r.state y k.place w) e ∙ sym k.goes,
+    )
+does_once a c r (flow_entry t y) steps made next there (inr (inl h)) (inr (inr k)) =
+    let p = stop_place_once a c r.state y h.place k.place h.switch k.switch h.stops k.stops in
+    let e = stop_switch_once a c r.state y h.place k.place h.switch k.switch p h.stops k.stops in
+    absurd (one_side (slice_get a.switches k.switch) (subst (λ (n : ℕ). HasSide a n Ctl) e h.side) k.side)
+does_once a c r (flow_entry t y) steps made next there (inr (inr h)) (inr (inl k)) =
+    let p = stop_place_once a c r.state y h.place k.place h.switch k.switch h.stops k.stops in
+    let e = stop_switch_once a c r.state y h.place k.place h.switch k.switch p h.stops k.stops in
+    absurd (one_side (slice_get a.switches h.switch) (subst (λ (n : ℕ). HasSide a n Ctl) (sym e) k.side) h.side)
+does_once a c r (flow_entry t y) steps made next there (inr (inr h)) (inr (inr k)) =
+    let p = stop_place_once a c r.state y h.place k.place h.switch k.switch h.stops k.stops in
+    let e = stop_switch_once a c r.state y h.place k.place h.switch k.switch p h.stops k.stops in
+    let f : (picked_result a c.region h.switch (state_along r.state y h.place)).value ≡ (picked_result a c.region k.switch (state_along r.state y k.place)).value =
+    ap (λ (w : Number). (picked_result a c.region h.switch (state_along r.state y w)).value) p ∙ ap (λ (w : ℕ). (picked_result a c.region w (state_along r.state y k.place)).value) e in
+    let z : h.result ≡ k.result = some_point h.result k.result (sym h.picks ∙ f ∙ k.picks) in (
+      h.does ∙ ap (λ w. pick_steps a r.state t y w h.switch h.result) p ∙ ap (λ (w : ℕ). pick_steps a r.state t y k.place w h.result) e
+          ∙ ap (λ (w : PlainPoint). pick_steps a r.state t y k.place k.switch w) z ∙ sym k.does,
+      h.goes ∙ ap (λ (w : ℕ). resting (result_at a w h.result)) e ∙ ap (λ (w : PlainPoint). resting (result_at a k.switch w)) z ∙ sym k.goes,
     )
 does_once a c r (env_entry e y) steps made next there h k = (h.0 ∙ sym k.0, h.1 ∙ sym k.1)
 does_once a c r (land_entry y) steps made next there h k =

@@ -5,15 +5,15 @@ use Rattle.lhg_math.specs.NumberOrder.{lt_irrefl, lt_trans, le-lt_trans, lt-le_t
 use Rattle.lhg_math.specs.Places.{IsPlace}
 use Rattle.lhg_math.specs.Tests.{by_bool}
 use Rattle.lhg_row.specs.Row.{PlainPoint}
-use Rattle.lhg_row.specs.Segment.{along}
-use Rattle.lhg_row.specs.SegmentLemmas.{along_end, length-along}
-use Rattle.lhg_row.specs.Convex.{piece_convex}
-use Rattle.lhg_row.specs.CheckPoint.{rows_of, AreNeighbours, IsBetween}
+use Rattle.lhg_motion.specs.Segment.{along}
+use Rattle.lhg_motion.specs.SegmentLemmas.{along_end, length-along}
+use Rattle.lhg_motion.specs.Convex.{piece_convex}
+use Rattle.lhg_motion.specs.CheckPoint.{rows_of, AreNeighbours, IsBetween}
 use Rattle.lhg_row.specs.Decisions.{clash}
 use Rattle.lhg_row.specs.Members.{all_split}
-use Rattle.lhg_row.specs.CheckLemmas.{neighbours_truth, some_carried, inside_place}
-use Rattle.lhg_row.specs.CheckPlaces.{mid_between, only_middle}
-use Rattle.lhg_row.specs.Enclose.{enclose}
+use Rattle.lhg_motion.specs.CheckLemmas.{neighbours_truth, some_carried, inside_place}
+use Rattle.lhg_motion.specs.CheckPlaces.{mid_between, only_middle}
+use Rattle.lhg_motion.specs.Enclose.{enclose}
 use Rattle.lhg_plant.specs.Plant.{PlainPlant}
 use Rattle.lhg_plant.specs.State.{PlainState, IsState, moved_to}
 use Rattle.lhg_plant.specs.Legal.{LegalFlow}

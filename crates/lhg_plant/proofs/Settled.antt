@@ -1,6 +1,6 @@
 -- The region of a settled round with its guards is a valid controller.
 use Rattle.std.proofs.Common.{◌↔◌, inl, inr, ℕ, suc, slice_get, Option, Some, None, IsSomeAnd}
-use Rattle.lhg_row.specs.PlayLemmas.{earlier_weaken}
+use Rattle.lhg_motion.specs.PlayLemmas.{earlier_weaken}
 use Rattle.lhg_plant.specs.Plant.{PlainPlant, PlainSwitch}
 use Rattle.lhg_plant.specs.State.{PlainState, IsState, moved_to}
 use Rattle.lhg_plant.specs.OutBack.{Back, BackBy, StaysBy}

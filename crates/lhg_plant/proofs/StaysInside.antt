@@ -1,28 +1,31 @@
 -- The visited states of a run of a valid controller are in its region.
-use Rattle.std.proofs.Common.{◌≡◌, inl, inr, ℕ, List, [], ◌∷◌, ◌++◌, Some, None, slice_get, length, sym, ap, ◌∙◌, subst, false}
+use Rattle.std.proofs.Common.{◌≡◌, inl, inr, ℕ, List, [], ◌∷◌, ◌++◌, Option, Some, None, IsSomeAnd, slice_get, length, sym, ap, ◌∙◌, subst, false}
 use Rattle.lhg_math.specs.Number.{Number, lt, nought, unit}
 use Rattle.lhg_math.specs.NumberOrder.{lt_irrefl, lt_antisymm, le_trans}
 use Rattle.lhg_math.specs.Interpolate.{interpolate, interpolate-lt, interpolate_start, interpolate_end, interpolate_same}
 use Rattle.lhg_math.specs.Places.{IsPlace, end_place}
 use Rattle.lhg_math.specs.Tests.{by_bool}
 use Rattle.lhg_row.specs.Row.{PlainPoint}
-use Rattle.lhg_row.specs.Segment.{along}
-use Rattle.lhg_row.specs.SegmentLemmas.{along_start, along_twice}
-use Rattle.lhg_row.specs.PlayLemmas.{earlier_none}
-use Rattle.lhg_row.specs.CheckPlaces.{check_is_place}
+use Rattle.lhg_motion.specs.Segment.{along}
+use Rattle.lhg_motion.specs.SegmentLemmas.{along_start, along_twice}
+use Rattle.lhg_motion.specs.PlayLemmas.{earlier_none}
+use Rattle.lhg_motion.specs.CheckPlaces.{check_is_place}
 use Rattle.lhg_plant.specs.declared.plants.Side.{Side}
-use Rattle.lhg_plant.specs.declared.plants.Side.TheVariants.{Ctl, Env}
-use Rattle.lhg_plant.specs.Plant.{PlainPlant}
+use Rattle.lhg_plant.specs.declared.plants.Side.TheVariants.{Ctl, Env, Pick}
+use Rattle.lhg_plant.specs.Plant.{PlainPlant, PlainSwitch}
 use Rattle.lhg_plant.specs.State.{PlainState, moved_to}
 use Rattle.lhg_plant.specs.Legal.{LegalFlow, LegalSwitch, HasSide}
-use Rattle.lhg_plant.specs.OutBack.{StaysBy}
+use Rattle.lhg_plant.specs.OutBack.{StaysBy, BackBy}
 use Rattle.lhg_plant.specs.Escape.{MayPass}
 use Rattle.lhg_plant.specs.Region.{InRegion, InGuard, InSomeGuard}
 use Rattle.lhg_plant.specs.Controller.{PlainController, IsValid}
-use Rattle.lhg_plant.specs.Run.{PlainEntry, flow_entry, env_entry, land_entry, PlainStep, flowed, switched, RunPlace, resting, result_at, run_rows, run_flow, state_along, PassesWhole, StopsAt, IsLegalEntry, DoesEntry, RunsFrom, IsRun}
+use Rattle.lhg_plant.specs.Proper.{IsProper}
+use Rattle.lhg_plant.specs.Inside.{IsRegionInside}
+use Rattle.lhg_plant.specs.Pick.{picked_result}
+use Rattle.lhg_plant.specs.Run.{PlainEntry, flow_entry, env_entry, land_entry, PlainStep, flowed, switched, landed, RunPlace, resting, result_at, run_rows, run_flow, state_along, PassesWhole, StopsAt, IsLegalEntry, DoesEntry, RunsFrom, IsRun}
 use Rattle.lhg_plant.specs.Log.{EachVisited}
 use Rattle.lhg_plant.proofs.Decided.{region_decided}
-use Rattle.lhg_plant.proofs.Options.{some_out}
+use Rattle.lhg_plant.proofs.Picks.{picked_right}
 use Rattle.lhg_plant.proofs.RunInside.{flow_length, end_state, passes_inside, upto_inside}
 
 -- a part of a place is a place, and not past it
@@ -64,21 +67,24 @@ env_inside a c valid e s z h side legal =
       ))
     ]
 
--- all legal results of a switch by which a state stays in a set are in the set
-stays_inside : (side : Side) (a : PlainPlant) (S : PlainState → Type 0) (e : ℕ) (s z : PlainState) → StaysBy side a S e s → LegalSwitch a e s z → S z
-stays_inside Ctl a S e s z h legal = h.1 z legal
-stays_inside Env a S e s z h legal = absurd h
+-- a state stays in a set by a switch as the side of the switch says
+pub by_side : (side : Side) (a : PlainPlant) (S : PlainState → Type 0) (e : ℕ) (s : PlainState) → HasSide a e side → BackBy a S e s → StaysBy side a S e s
+by_side side a S e s has back = go (slice_get a.switches e) has back
+  where
+    go : (o : Option PlainSwitch) → IsSomeAnd o (λ w. w.side ≡ side) → IsSomeAnd o (λ w. StaysBy w.side a S e s) → StaysBy side a S e s
+    go None h k = absurd h
+    go (Some w) h k = subst (λ (x : Side). StaysBy x a S e s) h k
 
--- a result of a switch at a state of its guard is in the region
-pub land_inside : (a : PlainPlant) (c : PlainController) → IsValid a c → (e : ℕ) (s z : PlainState) → InGuard a c.guards e s → LegalSwitch a e s z
-    → InRegion a c.region z
-land_inside a c valid e s z guard legal =
-    some_out _ _ (λ w k. stays_inside w.side a (InRegion a c.region) e s z k legal) (slice_get a.switches e) (valid.guarded e s guard).1
+-- a result of a switch of side `ctl` at a state of its guard is in the region
+pub land_inside : (a : PlainPlant) (c : PlainController) → IsValid a c → (e : ℕ) (s z : PlainState) → HasSide a e Ctl → InGuard a c.guards e s
+    → LegalSwitch a e s z → InRegion a c.region z
+land_inside a c valid e s z side guard legal = (by_side Ctl a (InRegion a c.region) e s side (valid.guarded e s guard).1).1 z legal
 
--- what a run of a valid controller keeps: its state is in the region, and in the guard of a pending switch
+-- what a run of a valid controller keeps: its state is in the region, and in the guard of a pending switch, which is of side `ctl`
 pub record IsKept (a : PlainPlant) (c : PlainController) (r : RunPlace) : Type 0 where
   pub inside : InRegion a c.region r.state
   pub pending : (e : ℕ) → r.pending ≡ Some e → InGuard a c.guards e r.state
+  pub side : (e : ℕ) → r.pending ≡ Some e → HasSide a e Ctl
 
 -- no switch is not some switch
 none_some : {P : Type 0} (e : ℕ) → None ≡ Some e → P
@@ -90,7 +96,7 @@ same_number d e h = cc
 
 -- at a state of the region with no switch pending all is kept
 pub resting_kept : (a : PlainPlant) (c : PlainController) (s : PlainState) → InRegion a c.region s → IsKept a c (resting s)
-resting_kept a c s h = record { inside = h; pending = λ e k. none_some e k }
+resting_kept a c s h = record { inside = h; pending = λ e k. none_some e k; side = λ e k. none_some e k }
 
 -- what one entry keeps, and the states that it visits
 abbrev Kept : (a : PlainPlant) (c : PlainController) → PlainState → List PlainStep → RunPlace → Type 0
@@ -101,7 +107,11 @@ carry : (P : List PlainStep → RunPlace → Type 0) (steps made : List PlainSte
     → P steps next
 carry P steps made next there e f h = subst (λ (w : List PlainStep). P w next) (sym e) (subst (λ (w : RunPlace). P made w) (sym f) h)
 
-module _ (a : PlainPlant) (c : PlainController) (valid : IsValid a c) where
+-- where the plant has a switch of side `pick`, it is proper, and the region lies inside its invariants
+abbrev pub MayPick : PlainPlant → PlainController → Type 0
+MayPick a c = (e : ℕ) → HasSide a e Pick → IsProper a × IsRegionInside a c.region
+
+module _ (a : PlainPlant) (c : PlainController) (valid : IsValid a c) (fit : MayPick a c) where
   -- a flow that passes whole keeps it
   passes_kept : (s : PlainState) (t : Number) (y : PlainPoint) → LegalFlow a s t y → PassesWhole a c s y
       → Kept a c s (flowed t y ∷ []) (resting (moved_to s y))
@@ -110,37 +120,66 @@ module _ (a : PlainPlant) (c : PlainController) (valid : IsValid a c) where
       let at_end = subst (λ (w : PlainState). InRegion a c.region w) (sym (end_state a s t y legal)) (inside unit end_place) in
       (resting_kept a c (moved_to s y) at_end, λ more rest. (inside, rest))
 
-  -- a flow that is stopped keeps it
-  stops_kept : (s : PlainState) (t : Number) (y : PlainPoint) (p : Number) (e : ℕ) → LegalFlow a s t y → StopsAt a c s y p e
-      → Kept a c s (run_flow s t y p ++ (switched e ∷ [])) (record { state = state_along s y p; pending = Some e })
-  stops_kept s t y p e legal stop =
-      let place = check_is_place (run_rows a c s.loc) s.at y p stop.check in
-      let inside = λ (u : Number) (i : IsPlace u) (le : lt p u ≡ false). upto_inside a c s t y p stop.end_place u legal stop.first stop.check stop.before i le in
+  -- up to the place at which a flow is stopped it is in the region
+  stop_inside : (s : PlainState) (t : Number) (y : PlainPoint) (p : Number) (e : ℕ) → LegalFlow a s t y → StopsAt a c s y p e
+      → (u : Number) → IsPlace u → lt p u ≡ false → InRegion a c.region (state_along s y u)
+  stop_inside s t y p e legal stop u i le = upto_inside a c s t y p stop.end_place u legal stop.first stop.check stop.before i le
+
+  -- the place at which a flow is stopped is one of the flow
+  stop_place : (s : PlainState) (y : PlainPoint) (p : Number) (e : ℕ) → StopsAt a c s y p e → IsPlace p
+  stop_place s y p e stop = check_is_place (run_rows a c s.loc) s.at y p stop.check
+
+  -- the flow as far as it is run, and further steps
+  stop_visited : (s : PlainState) (t : Number) (y : PlainPoint) (p : Number) (e : ℕ) → LegalFlow a s t y → StopsAt a c s y p e
+      → (steps more : List PlainStep) → EachVisited (InRegion a c.region) (state_along s y p) (steps ++ more)
+      → EachVisited (InRegion a c.region) s ((run_flow s t y p ++ steps) ++ more)
+  stop_visited s t y p e legal stop steps more rest =
+      let place = stop_place s y p e stop in
       let points : (q : Number) → IsPlace q → InRegion a c.region (state_along s (along s.at y p) q) =
-      λ (q : Number) (i : IsPlace q). subst (λ (w : PlainState). InRegion a c.region w) (sym (part_along s y p q (flow_length a s t y legal))) (inside (interpolate nought p q) (part_place p q place i) (part_upto p q place i)) in (
-        record {
-          inside = inside p place (lt_irrefl p);
-          pending = λ d k. subst (λ (n : ℕ). InGuard a c.guards n (state_along s y p)) (same_number e d k) stop.guard.holds;
-        },
-        λ more rest. by_bool (lt nought p)
-            (λ f. rw f (points, rest))
-            (λ f.
-            let at_start : state_along s y p ≡ s = ap (λ w. state_along s y w) (sym (lt_antisymm nought p f place.from)) ∙ ap (λ w. moved_to s w) (along_start s.at y (flow_length a s t y legal)) in
-            rw f (subst (λ (w : PlainState). EachVisited (InRegion a c.region) w more) at_start rest)),
+      λ (q : Number) (i : IsPlace q). subst (λ (w : PlainState). InRegion a c.region w) (sym (part_along s y p q (flow_length a s t y legal))) (stop_inside s t y p e legal stop (interpolate nought p q) (part_place p q place i) (part_upto p q place i)) in
+      by_bool (lt nought p)
+      (λ f. rw f (points, rest))
+      (λ f.
+      let at_start : state_along s y p ≡ s = ap (λ w. state_along s y w) (sym (lt_antisymm nought p f place.from)) ∙ ap (λ w. moved_to s w) (along_start s.at y (flow_length a s t y legal)) in
+      rw f (subst (λ (w : PlainState). EachVisited (InRegion a c.region) w (steps ++ more)) at_start rest))
+
+  -- a flow that is stopped by a switch that is then pending keeps it
+  stops_kept : (s : PlainState) (t : Number) (y : PlainPoint) (p : Number) (e : ℕ) → LegalFlow a s t y → StopsAt a c s y p e → HasSide a e Ctl
+      → Kept a c s (run_flow s t y p ++ (switched e ∷ [])) (record { state = state_along s y p; pending = Some e })
+  stops_kept s t y p e legal stop side = (
+    record {
+      inside = stop_inside s t y p e legal stop p (stop_place s y p e stop) (lt_irrefl p);
+      pending = λ d k. subst (λ (n : ℕ). InGuard a c.guards n (state_along s y p)) (same_number e d k) stop.guard.holds;
+      side = λ d k. subst (λ (n : ℕ). HasSide a n Ctl) (same_number e d k) side;
+    },
+    λ more rest. stop_visited s t y p e legal stop (switched e ∷ []) more rest,
+  )
+
+  -- a flow that is stopped by a switch whose result is picked keeps it
+  picks_kept : (s : PlainState) (t : Number) (y : PlainPoint) (p : Number) (e : ℕ) (z : PlainPoint) → LegalFlow a s t y → StopsAt a c s y p e
+      → HasSide a e Pick → (picked_result a c.region e (state_along s y p)).value ≡ Some z
+      → Kept a c s (run_flow s t y p ++ (switched e ∷ landed (result_at a e z) ∷ [])) (resting (result_at a e z))
+  picks_kept s t y p e z legal stop side picks =
+      let fits = fit e side in
+      let there = (picked_right a c.region fits.0 fits.1 e (state_along s y p) z stop.guard.holds.state stop.guard.holds.leaves picks).1 in (
+        resting_kept a c (result_at a e z) there,
+        λ more rest. stop_visited s t y p e legal stop (switched e ∷ landed (result_at a e z) ∷ []) more (there, rest),
       )
 
   -- one entry
   pub entry_kept : (r : RunPlace) (entry : PlainEntry) (steps : List PlainStep) (next : RunPlace) → IsKept a c r → IsLegalEntry a r entry
       → DoesEntry a c r entry steps next → Kept a c r.state steps next
   entry_kept r (flow_entry t y) steps next kept legal (inl h) = carry (Kept a c r.state) steps _ next _ h.does h.goes (passes_kept r.state t y legal.1 h.whole)
-  entry_kept r (flow_entry t y) steps next kept legal (inr h) = carry (Kept a c r.state) steps _ next _ h.does h.goes (stops_kept r.state t y h.place h.switch legal.1 h.stops)
+  entry_kept r (flow_entry t y) steps next kept legal (inr (inl h)) = carry (Kept a c r.state) steps _ next _ h.does h.goes (stops_kept r.state t y h.place h.switch legal.1 h.stops h.side)
+  entry_kept r (flow_entry t y) steps next kept legal (inr (inr h)) =
+      carry (Kept a c r.state) steps _ next _ h.does h.goes (picks_kept r.state t y h.place h.switch h.result legal.1 h.stops h.side h.picks)
   entry_kept r (env_entry e y) steps next kept legal h =
       let z = env_inside a c valid e r.state (result_at a e y) kept.inside legal.1 legal.2 in
       carry (Kept a c r.state) steps _ next _ h.0 h.1 (resting_kept a c (result_at a e y) z, λ more rest. (z, rest))
   entry_kept r (land_entry y) steps next kept legal h =
       let same : legal.0 ≡ h.0 = same_number legal.0 h.0 (sym legal.1 ∙ h.1) in
       let moved : LegalSwitch a h.0 r.state (result_at a h.0 y) = subst (λ (n : ℕ). LegalSwitch a n r.state (result_at a n y)) same legal.2 in
-      let z = land_inside a c valid h.0 r.state (result_at a h.0 y) (kept.pending h.0 h.1) moved in
+      let z = land_inside a c valid h.0 r.state (result_at a h.0 y) (kept.side h.0 h.1) (kept.pending h.0 h.1) moved in
       carry (Kept a c r.state) steps _ next _ h.2 h.3 (resting_kept a c (result_at a h.0 y) z, λ more rest. (z, rest))
 
   -- the visited states of entries are in the region

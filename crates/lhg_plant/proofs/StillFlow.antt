@@ -7,9 +7,10 @@ use Rattle.lhg_math.specs.NumberOrder.{lt_irrefl, lt_antisymm, lt-nought_neg, lt
 use Rattle.lhg_math.specs.Interpolate.{interpolate_same, unit-mul}
 use Rattle.lhg_row.specs.Row.{PlainPoint, row_value}
 use Rattle.lhg_row.specs.Piece.{PlainPiece, InPiece}
-use Rattle.lhg_row.specs.Segment.{along}
-use Rattle.lhg_row.specs.Flow.{displacement, times, IsFlow}
-use Rattle.lhg_row.specs.Join.{sub_is, length-speed}
+use Rattle.lhg_motion.specs.Segment.{along}
+use Rattle.lhg_motion.specs.Flow.{displacement, times, IsFlow}
+use Rattle.lhg_math.specs.NumberRing.{sub_is}
+use Rattle.lhg_motion.specs.Join.{length-speed}
 use Rattle.lhg_row.specs.Decisions.{nat_decided}
 use Rattle.lhg_plant.specs.Still.{axis, still_from, still_rows}
 

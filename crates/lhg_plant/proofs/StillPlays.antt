@@ -3,10 +3,10 @@ use Rattle.std.proofs.Common.{◌≡◌, ◌↔◌, ℕ, zero, suc, List, [], �
 use Rattle.lhg_math.specs.Number.{Number}
 use Rattle.lhg_row.specs.Row.{PlainPoint}
 use Rattle.lhg_row.specs.Piece.{PlainPiece}
-use Rattle.lhg_row.specs.Play.{PlainMove, IsPlay, last_point, EachPoint}
-use Rattle.lhg_row.specs.PlayLemmas.{earlier_none, earlier_one, earlier_more, earlier_weaken}
+use Rattle.lhg_motion.specs.Play.{PlainMove, IsPlay, last_point, EachPoint}
+use Rattle.lhg_motion.specs.PlayLemmas.{earlier_none, earlier_one, earlier_more, earlier_weaken}
 use Rattle.lhg_math.specs.Tests.{AllOf}
-use Rattle.lhg_row.specs.Segment.{along}
+use Rattle.lhg_motion.specs.Segment.{along}
 use Rattle.lhg_plant.specs.Plant.{PlainLocation, PlainSwitch, PlainPlant}
 use Rattle.lhg_plant.specs.State.{PlainState, IsSafe, moved_to}
 use Rattle.lhg_plant.specs.Legal.{IsPlayFrom}

@@ -11,8 +11,9 @@ pub record PlainController : Type 0 where
   pub region : PlainRegion
   pub guards : PlainGuards
 
--- every state of the region is safe; every state of a guard is in the region, has a legal result by the switch, and has all
--- its legal results by the switch in the region; no state of the region has an escape from it past the union of the guards
+-- every state of the region is safe; every state of a guard is in the region, and stays there by the switch: by one of side `ctl`
+-- it has a legal result, and all its legal results are in the region, by one of side `pick` it has a legal result in the region; no
+-- state of the region has an escape from it past the union of the guards
 pub record IsValid (a : PlainPlant) (c : PlainController) : Type 0 where
   pub safe : (s : PlainState) → InRegion a c.region s → IsSafe a s
   pub guarded : (e : ℕ) (s : PlainState) → InGuard a c.guards e s → InRegion a c.region s × BackBy a (InRegion a c.region) e s

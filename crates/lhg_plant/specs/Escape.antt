@@ -1,6 +1,6 @@
 -- What is an escape from a set of states, and when is a set secure?
 use Rattle.std.specs.Prelude.{◌⊎◌, List}
-use Rattle.lhg_row.specs.Play.{PlainMove, last_point, EachEarlier}
+use Rattle.lhg_motion.specs.Play.{PlainMove, last_point, EachEarlier}
 use Rattle.lhg_plant.specs.Plant.{PlainPlant}
 use Rattle.lhg_plant.specs.State.{PlainState, States, moved_to, IsSafe}
 use Rattle.lhg_plant.specs.Legal.{IsPlayFrom}

@@ -3,8 +3,8 @@ use Rattle.std.specs.Prelude.{◌≡◌, ℕ, List, ◌++◌, Some, slice_get, I
 use Rattle.lhg_math.specs.Number.{Number}
 use Rattle.lhg_row.specs.Row.{PlainPoint}
 use Rattle.lhg_row.specs.Piece.{InPiece}
-use Rattle.lhg_row.specs.Flow.{IsFlow}
-use Rattle.lhg_row.specs.Play.{PlainMove, IsPlay}
+use Rattle.lhg_motion.specs.Flow.{IsFlow}
+use Rattle.lhg_motion.specs.Play.{PlainMove, IsPlay}
 use Rattle.lhg_plant.specs.declared.plants.Side.{Side}
 use Rattle.lhg_plant.specs.Plant.{PlainPlant, PlainSwitch}
 use Rattle.lhg_plant.specs.State.{PlainState, IsState, AtLocation}

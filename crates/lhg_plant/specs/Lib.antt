@@ -1,7 +1,10 @@
+pub mod BackCalculus
 pub mod Controller
 pub mod Differ
 pub mod Escape
 pub mod Example
+pub mod Inside
+pub mod Invariants
 pub mod Laws
 pub mod Legal
 pub mod LegalTruths
@@ -10,8 +13,12 @@ pub mod Log
 pub mod Loss
 pub mod NameModel
 pub mod OutBack
+pub mod OutCalculus
 pub mod Parts
+pub mod Pick
+pub mod PickExample
 pub mod Plant
+pub mod Pre
 pub mod Printable
 pub mod Proper
 pub mod ProperOnce
@@ -21,7 +28,11 @@ pub mod Run
 pub mod SafeRegion
 pub mod Solution
 pub mod Sound
+pub mod Split
 pub mod State
 pub mod Still
+pub mod SwitchFacts
+pub mod SwitchLaws
 pub mod Views
 pub mod Word
+pub mod WorkedSwitches

@@ -7,7 +7,7 @@ most_name_bytes = 32
 
 -- variables; there is one or more
 abbrev pub most_variables : ℕ
-most_variables = 6
+most_variables = 8
 
 -- locations; there is one or more
 abbrev pub most_locations : ℕ

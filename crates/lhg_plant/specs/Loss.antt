@@ -1,7 +1,7 @@
 -- What does a loss record say of its states, and when is it true?
 use Rattle.std.specs.Prelude.{◌≡◌, ◌<◌, ℕ, suc, List, [], ◌∷◌, Some, slice_get}
 use Rattle.lhg_row.specs.Piece.{PlainPiece, InPiece}
-use Rattle.lhg_row.specs.Play.{PlainMove, EachEarlier}
+use Rattle.lhg_motion.specs.Play.{PlainMove, EachEarlier}
 use Rattle.lhg_plant.specs.declared.plants.Side.TheVariants.{Env}
 use Rattle.lhg_plant.specs.Plant.{PlainPlant}
 use Rattle.lhg_plant.specs.State.{PlainState, States, IsState, moved_to}

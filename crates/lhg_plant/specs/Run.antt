@@ -2,14 +2,15 @@
 use Rattle.std.specs.Prelude.{◌≡◌, ◌⊎◌, ◌<◌, ℕ, zero, true, cond, nat_eq, List, [], ◌∷◌, ◌++◌, Option, Some, None, get_or, slice_get}
 use Rattle.lhg_math.specs.Number.{Number, mul, lt, nought}
 use Rattle.lhg_row.specs.Row.{PlainPoint, PlainRow}
-use Rattle.lhg_row.specs.Segment.{along}
-use Rattle.lhg_row.specs.CheckPoint.{rows_of, IsCheckPoint}
-use Rattle.lhg_plant.specs.declared.plants.Side.TheVariants.{Env}
+use Rattle.lhg_motion.specs.Segment.{along}
+use Rattle.lhg_motion.specs.CheckPoint.{rows_of, IsCheckPoint}
+use Rattle.lhg_plant.specs.declared.plants.Side.TheVariants.{Ctl, Env, Pick}
 use Rattle.lhg_plant.specs.Plant.{PlainPlant, PlainSwitch}
 use Rattle.lhg_plant.specs.State.{PlainState, moved_to}
 use Rattle.lhg_plant.specs.Legal.{LegalFlow, LegalSwitch, HasSide}
 use Rattle.lhg_plant.specs.Region.{PlainGuards, InRegion, InGuard}
 use Rattle.lhg_plant.specs.Controller.{PlainController}
+use Rattle.lhg_plant.specs.Pick.{picked_result}
 
 -- one entry of a log: a flow with its time and its end; an uncontrollable switch and its result; the result of the switch
 -- that is pending
@@ -103,17 +104,29 @@ pub record PassesFlow (a : PlainPlant) (c : PlainController) (s : PlainState) (t
   pub does : steps ≡ flowed t y ∷ []
   pub goes : next ≡ resting (moved_to s y)
 
--- the controller stops the flow by a switch, which is then pending
+-- the controller stops the flow by a switch of side `ctl`, which is then pending
 pub record StopsFlow (a : PlainPlant) (c : PlainController) (s : PlainState) (t : Number) (y : PlainPoint) (steps : List PlainStep) (next : RunPlace) : Type 0 where
   pub place : Number
   pub switch : ℕ
   pub stops : StopsAt a c s y place switch
+  pub side : HasSide a switch Ctl
   pub does : steps ≡ run_flow s t y place ++ (switched switch ∷ [])
   pub goes : next ≡ record { state = state_along s y place; pending = Some switch }
 
+-- the controller stops the flow by a switch of side `pick` and gives its result at once, so that none is pending
+pub record PicksFlow (a : PlainPlant) (c : PlainController) (s : PlainState) (t : Number) (y : PlainPoint) (steps : List PlainStep) (next : RunPlace) : Type 0 where
+  pub place : Number
+  pub switch : ℕ
+  pub stops : StopsAt a c s y place switch
+  pub side : HasSide a switch Pick
+  pub result : PlainPoint
+  pub picks : (picked_result a c.region switch (state_along s y place)).value ≡ Some result
+  pub does : steps ≡ run_flow s t y place ++ (switched switch ∷ landed (result_at a switch result) ∷ [])
+  pub goes : next ≡ resting (result_at a switch result)
+
 -- what an entry does: the steps of the trace, and where the run stands after it
 abbrev pub DoesEntry : PlainPlant → PlainController → RunPlace → PlainEntry → List PlainStep → RunPlace → Type 0
-DoesEntry a c r (flow_entry t y) steps next = PassesFlow a c r.state t y steps next ⊎ StopsFlow a c r.state t y steps next
+DoesEntry a c r (flow_entry t y) steps next = PassesFlow a c r.state t y steps next ⊎ (StopsFlow a c r.state t y steps next ⊎ PicksFlow a c r.state t y steps next)
 DoesEntry a c r (env_entry e y) steps next = (steps ≡ env_switched e (result_at a e y) ∷ []) × (next ≡ resting (result_at a e y))
 DoesEntry a c r (land_entry y) steps next = (e : ℕ) × (r.pending ≡ Some e) × (steps ≡ landed (result_at a e y) ∷ []) × (next ≡ resting (result_at a e y))
 

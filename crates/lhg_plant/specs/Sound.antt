@@ -4,8 +4,8 @@ use Rattle.lhg_math.specs.Number.{Number}
 use Rattle.lhg_math.specs.Places.{IsInner}
 use Rattle.lhg_row.specs.Row.{PlainPoint}
 use Rattle.lhg_row.specs.Piece.{PlainPiece, InPiece}
-use Rattle.lhg_row.specs.Segment.{along}
-use Rattle.lhg_row.specs.Play.{PlainMove}
+use Rattle.lhg_motion.specs.Segment.{along}
+use Rattle.lhg_motion.specs.Play.{PlainMove}
 use Rattle.lhg_plant.specs.declared.plants.Side.TheVariants.{Env}
 use Rattle.lhg_plant.specs.Plant.{PlainPlant}
 use Rattle.lhg_plant.specs.State.{PlainState, States, IsState, moved_to}

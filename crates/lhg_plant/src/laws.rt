@@ -6,10 +6,17 @@ ghost use Rattle.lhg_plant.specs.State.{PlainState};
 ghost use Rattle.lhg_plant.specs.Escape.{HasEscape, IsSecure};
 ghost use Rattle.lhg_plant.specs.Round.{InRound};
 ghost use Rattle.lhg_plant.specs.Still.{IsStill, HasNoSwitch};
+ghost use Rattle.lhg_plant.specs.Region.{PlainRegion};
 ghost use Rattle.lhg_plant.specs.Controller.{PlainController};
 ghost use Rattle.lhg_plant.specs.Loss.{PlainLoss};
 ghost use Rattle.lhg_plant.specs.Example.{WordFacts, ThermostatFacts, TankFacts};
-ghost use Rattle.lhg_plant.specs.Laws.{MemberLaws, LegalLaws, MonotoneLaws, RoundLaws, ValidLaws, RunLaws, LossLaws, SolvedLaw, StillLaws, SafeRegionLaw, WordLaws};
+ghost use Rattle.lhg_plant.specs.PickExample.{LiftFacts};
+ghost use Rattle.lhg_plant.specs.Inside.{IsRegionInside};
+ghost use Rattle.lhg_plant.specs.Proper.{IsProper};
+ghost use Rattle.lhg_plant.specs.SafeRegion.{safe_region};
+ghost use Rattle.lhg_plant.specs.Laws.{MemberLaws, LegalLaws, MonotoneLaws, RoundLaws, ValidLaws, PickLaws, RunLaws, LossLaws, SolvedLaw, StillLaws, SafeRegionLaw, WordLaws};
+ghost use Rattle.lhg_plant.specs.SwitchLaws.{PreLaw, OutLaw, BackLaw, KeepLaw, GuardLaw};
+ghost use Rattle.lhg_plant.specs.WorkedSwitches.{SwitchRows};
 
 use crate::sets::StateSet;
 
@@ -48,6 +55,11 @@ pub fn law_valid()
     ensures { (a : PlainPlant) (c : PlainController) → ValidLaws a c }
 {}
 
+/// What the controller picks at a switch of side `pick` is a legal result in the region, where there is one.
+pub fn law_picks()
+    ensures { (a : PlainPlant) (region : PlainRegion) → PickLaws a region }
+{}
+
 /// A valid controller has exactly one run over each legal log, and all its visited states are in the region.
 pub fn law_run()
     ensures { (a : PlainPlant) (c : PlainController) → RunLaws a c }
@@ -76,9 +88,10 @@ pub fn law_still_sets<T: StateSet, U: StateSet>(set: &T, past: &U)
     let _ = past;
 }
 
-/// The safe region of the calculus holds exactly the safe states.
+/// The safe region of the calculus holds exactly the safe states, and lies inside the invariants.
 pub fn law_safe_region()
-    ensures { (a : PlainPlant) → SafeRegionLaw a }
+    ensures states { (a : PlainPlant) → SafeRegionLaw a }
+    ensures inside { (a : PlainPlant) → IsProper a → IsRegionInside a (safe_region a).value }
 {}
 
 /// Whether bytes are a name is decidable.
@@ -86,9 +99,32 @@ pub fn law_words()
     ensures { WordLaws }
 {}
 
-/// What the definitions say of a few names, of a thermostat, and of a tank in which nothing moves.
+/// What the definitions say of a few names, of a thermostat, of a tank in which nothing moves, and of a lift whose result the controller picks.
 pub fn law_example()
     ensures words { WordFacts }
     ensures thermostat { ThermostatFacts }
     ensures tank { TankFacts }
+    ensures lift { LiftFacts }
+{}
+
+/// What `pre` of the calculus gives are exactly the states with a legal result in the target.
+pub fn law_pre()
+    ensures { (a : PlainPlant) → PreLaw a }
+{}
+
+/// What `out` of the calculus gives are exactly the states of Out.
+pub fn law_out()
+    ensures { (a : PlainPlant) → OutLaw a }
+{}
+
+/// What `back` of the calculus gives are exactly the states that the controller can keep, switch by switch, joined in a location, and as guards.
+pub fn law_back()
+    ensures back { (a : PlainPlant) → BackLaw a }
+    ensures joined { (a : PlainPlant) → KeepLaw a }
+    ensures guards { (a : PlainPlant) → GuardLaw a }
+{}
+
+/// What the sets of switches give in a known plant.
+pub fn law_worked_switches()
+    ensures { SwitchRows }
 {}

@@ -6,7 +6,7 @@ ghost use Rattle.lhg_plant.specs.Limits.{most_name_bytes, most_variables, most_l
 pub const MOST_NAME_BYTES: usize = 32;
 
 /// How many variables a plant may have; it has one or more.
-pub const MOST_VARIABLES: usize = 6;
+pub const MOST_VARIABLES: usize = 8;
 
 /// How many locations a plant may have; it has one or more.
 pub const MOST_LOCATIONS: usize = 64;

@@ -7,13 +7,15 @@ use crate::names::Name;
 use lhg_num::Frac;
 use lhg_row::Row;
 
-/// Who takes a switch.
+/// Who takes a switch, and who picks its result.
 #[derive(Clone, Copy, Debug, PartialEq, Eq)]
 pub enum Side {
-    /// The controller may take it.
+    /// The controller may take it, and the plant picks the result.
     Ctl,
-    /// The plant may take it.
+    /// The plant may take it, and picks the result.
     Env,
+    /// The controller may take it, and picks the result.
+    Pick,
 }
 
 /// A location. Each row has one coefficient per variable of the plant; those of `flow` are over the derivatives.

@@ -1,1 +1,2 @@
+pub mod AskSteps
 pub mod MakeSteps

@@ -4,7 +4,7 @@ use Rattle.lhg_math.specs.Number.{Number}
 use Rattle.lhg_math.specs.Places.{IsInner}
 use Rattle.lhg_row.specs.Row.{PlainPoint}
 use Rattle.lhg_row.specs.Piece.{PlainPiece, InPiece, InClosure}
-use Rattle.lhg_row.specs.Segment.{along}
+use Rattle.lhg_motion.specs.Segment.{along}
 
 -- the relaxed rows of a piece with a point x hold at y exactly where the piece holds at each point strictly between x and y
 abbrev pub RelaxedClosureLaw : Type 0

@@ -5,6 +5,7 @@ ghost use Rattle.lhg_row.specs.Width.{AllWide};
 ghost use Rattle.lhg_row.specs.PieceFacts.{IsEntailment, IsInclusion};
 ghost use Rattle.lhg_row.specs.Pieces as calculus;
 
+use crate::asking::asked;
 use crate::polys::Poly;
 use lhg_elim::is_empty;
 use lhg_num::{Halt, Scalar};
@@ -55,6 +56,18 @@ pub(crate) fn have_no_point<N: Scalar>(
     vars: usize,
     rows: Vec<Row<N>>,
 ) -> Result<bool, Halt>
+    requires { AllWide vars rows.items }
+    ensures { IsHaltedByRows result (calculus.are_empty N.arithmetic vars rows.items) (λ b. b) }
+{
+    let known = asked(alloc, vars, &rows)?;
+    match known {
+        Some(none) => Ok(none),
+        None => eliminated(alloc, vars, rows),
+    }
+}
+
+// Whether the rows have no common point, by elimination.
+fn eliminated<N: Scalar>(alloc: Global, vars: usize, rows: Vec<Row<N>>) -> Result<bool, Halt>
     requires { AllWide vars rows.items }
     ensures { IsHaltedByRows result (calculus.are_empty N.arithmetic vars rows.items) (λ b. b) }
 {

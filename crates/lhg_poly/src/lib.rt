@@ -1,6 +1,7 @@
 // Pieces: trimmed lists of rows that have a point, none of which follows from the others, and what is made of them.
 #![tactic(auto)]
 
+mod asking;
 mod entailing;
 pub mod laws;
 mod making;

@@ -6,10 +6,11 @@ ghost use Rattle.std.specs.List.{remove};
 ghost use Rattle.lhg_row.specs.Width.{AllWide};
 ghost use Rattle.lhg_row.specs.PieceFacts.{IsMade};
 ghost use Rattle.lhg_row.specs.Pieces as calculus;
+ghost use Rattle.lhg_simplex.specs.Verdict.{IsAnswer};
 
+use crate::asking::{asked, emptiness};
 use crate::entailing::rows_entail;
 use crate::polys::Poly;
-use lhg_elim::is_empty;
 use lhg_num::{Halt, Scalar};
 use lhg_row::{Row, append_rows, trim};
 use std::alloc::Global;
@@ -28,8 +29,29 @@ pub fn make<N: Scalar>(
     ensures vars { IfOk result (λ o. IfSome o (λ p. p.width ≡ vars)) }
     ensures points { IfOk result (λ o. IsMade N.arithmetic vars rows.items (option_map (λ p. p.lines) o)) }
 {
+    let known = asked(alloc, vars, &rows)?;
+    let none = known.unwrap_or(false);
+    if none {
+        return Ok(None);
+    }
+    formed(alloc, vars, rows, known)
+}
+
+// The piece of rows of which it may be known whether they have a point.
+fn formed<N: Scalar>(
+    alloc: Global,
+    vars: usize,
+    rows: Vec<Row<N>>,
+    known: Option<bool>,
+) -> Result<Option<Poly<N>>, Halt>
+    requires wide { AllWide vars rows.items }
+    requires known { IsAnswer vars rows.items known }
+    ensures calculus { IsHaltedByRows result (calculus.make N.arithmetic vars rows.items) (option_map (λ p. p.lines)) }
+    ensures vars { IfOk result (λ o. IfSome o (λ p. p.width ≡ vars)) }
+    ensures points { IfOk result (λ o. IsMade N.arithmetic vars rows.items (option_map (λ p. p.lines) o)) }
+{
     let system = trim(alloc, vars, rows)?;
-    let empty = is_empty(alloc, &system)?;
+    let empty = emptiness(alloc, known, &system)?;
     if empty {
         return Ok(None);
     }

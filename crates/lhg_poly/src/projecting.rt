@@ -4,6 +4,7 @@ ghost use Rattle.lhg_num.specs.Halting.{IsHaltedByRows};
 ghost use Rattle.lhg_row.specs.PieceFacts.{IsProjection};
 ghost use Rattle.lhg_row.specs.Pieces as calculus;
 
+use crate::asking::asked;
 use crate::making::make;
 use crate::polys::Poly;
 use lhg_elim::eliminate_last;
@@ -25,6 +26,11 @@ pub fn project<N: Scalar>(
     ensures vars { IfOk result (λ o. IfSome o (λ p. p.width ≡ keep)) }
     ensures points { IfOk result (λ o. IsProjection N.arithmetic keep (sys.now.width - keep) sys.now.lines (option_map (λ p. p.lines) o)) }
 {
+    let known = asked(alloc, sys.vars(), sys.rows())?;
+    let none = known.unwrap_or(false);
+    if none {
+        return Ok(None);
+    }
     let left = eliminate_last(alloc, sys, keep)?;
     make(alloc, keep, left.into_rows())
 }

@@ -1,10 +1,10 @@
-// Known pieces over x and y.
+// Known pieces over x and y, and some that elimination alone would not decide.
 ghost use Rattle.std.specs.Prelude.{◌≡◌, IfOk, IfSome, length};
 ghost use Rattle.lhg_row.specs.Width.{AllWide};
 
 use crate::{Poly, are_apart, closure, entails, includes, make, meet, project};
 use lhg_num::{Frac, Halt};
-use lhg_row::{Kind, Point, Row, System, trim, whole_row};
+use lhg_row::{Kind, Row, trim, whole_row};
 use std::alloc::Global;
 use std::process::Abort;
 use std::test::Fail;
@@ -12,18 +12,17 @@ use std::test::Fail;
 // The coefficients of x and y, the kind, and the bound.
 type Line = (i64, i64, Kind, i64);
 
-// The coefficient of the first variable, the kind, and the bound.
-type Shown = (Option<(i128, i128)>, Kind, (i128, i128));
-
 const FROM_0: Line = (-1, 0, Kind::Weak, 0);
 
-const FROM_2: Line = (-1, 0, Kind::Weak, -2);
+const FROM_1: Line = (-1, 0, Kind::Weak, -1);
 
-const FROM_3: Line = (-1, 0, Kind::Weak, -3);
+const FROM_2: Line = (-1, 0, Kind::Weak, -2);
 
 const ABOVE_2: Line = (-1, 0, Kind::Strict, -2);
 
 const ABOVE_3: Line = (-1, 0, Kind::Strict, -3);
+
+const BELOW_1: Line = (1, 0, Kind::Strict, 1);
 
 const BELOW_3: Line = (1, 0, Kind::Strict, 3);
 
@@ -32,6 +31,10 @@ const BELOW_4: Line = (1, 0, Kind::Strict, 4);
 const UP_TO_3: Line = (1, 0, Kind::Weak, 3);
 
 const UP_TO_10: Line = (1, 0, Kind::Weak, 10);
+
+const FROM_FAR: Line = (-1, 0, Kind::Weak, -(1 << 31));
+
+const UP_TO_FAR: Line = (1, 0, Kind::Weak, 1 << 31);
 
 // x <= y
 const UP_TO_Y: Line = (1, -1, Kind::Weak, 0);
@@ -55,13 +58,6 @@ fn rows(alloc: Global, lines: &[Line]) -> Result<Vec<Row<Frac>>, Halt>
     Ok(out)
 }
 
-fn system(alloc: Global, lines: &[Line]) -> Result<System<Frac>, Halt>
-    ensures { IfOk result (λ s. s.width ≡ 2) }
-{
-    let rows = rows(alloc, lines)?;
-    trim(alloc, 2, rows)
-}
-
 // The piece of the lines, where they have a common point.
 fn made(alloc: Global, lines: &[Line]) -> Result<Option<Poly<Frac>>, Halt>
     ensures { IfOk result (λ o. IfSome o (λ p. p.width ≡ 2)) }
@@ -76,14 +72,6 @@ fn piece(alloc: Global, lines: &[Line]) -> Result<Poly<Frac>, Fail>
 {
     let made = made(alloc, lines)?;
     Ok(made.ok_or("none")?)
-}
-
-fn parts(x: &Frac) -> (i128, i128) {
-    (x.numer(), x.denom())
-}
-
-fn shown(row: &Row<Frac>) -> Shown {
-    (row.coefs.first().map(parts), row.kind, parts(&row.bound))
 }
 
 // Whether these are the rows.
@@ -102,39 +90,9 @@ fn is(row: &Row<Frac>, line: &Line) -> bool {
 fn makes_pieces(rt: HostRuntime) -> Result<(), Fail> {
     let kept = piece(rt.alloc(), &[UP_TO_10, FROM_0, UP_TO_3])?;
     assert!(rt; are(kept.rows(), &[UP_TO_3, FROM_0]));
-    assert!(rt; are(kept.system().rows(), &[UP_TO_3, FROM_0]));
-    assert_eq!(rt; kept.vars(), 2);
-    Ok(())
-}
-
-#[test]
-fn makes_none_of_empty_lists(rt: HostRuntime) -> Result<(), Fail> {
-    for lines in [[BELOW_3, FROM_2, FROM_3], [UP_TO_3, FROM_0, ABOVE_3]] {
-        assert!(rt; made(rt.alloc(), &lines)?.is_none());
-    }
-    Ok(())
-}
-
-#[test]
-fn copies_pieces(rt: HostRuntime) -> Result<(), Fail> {
-    let kept = piece(rt.alloc(), &[FROM_0, UP_TO_3])?;
     let copy = kept.copy(rt.alloc())?;
-    assert!(rt; are(copy.rows(), &[FROM_0, UP_TO_3]));
-    Ok(())
-}
-
-// Whether the point with this x and the y 0 is in the piece of the lines.
-fn holds_at(alloc: Global, lines: &[Line], x: i64) -> Result<bool, Fail> {
-    let piece = piece(alloc, lines)?;
-    let at = [Frac::from(x), Frac::from(0)].to_vec(alloc)?;
-    Ok(piece.has(&Point { at })?)
-}
-
-#[test]
-fn tells_points(rt: HostRuntime) -> Result<(), Fail> {
-    for (x, want) in [(0, true), (2, true), (3, false), (-1, false)] {
-        assert_eq!(rt; holds_at(rt.alloc(), &[BELOW_3, FROM_0], x)?, want);
-    }
+    assert!(rt; are(copy.rows(), &[UP_TO_3, FROM_0]));
+    assert!(rt; made(rt.alloc(), &[BELOW_1, FROM_1])?.is_none());
     Ok(())
 }
 
@@ -145,14 +103,6 @@ fn is_entailed(alloc: Global, lines: &[Line], line: &Line) -> Result<bool, Fail>
     Ok(entails(alloc, &piece, &row)?)
 }
 
-#[test]
-fn entails_rows(rt: HostRuntime) -> Result<(), Fail> {
-    for (line, want) in [(BELOW_4, true), (BELOW_3, false)] {
-        assert_eq!(rt; is_entailed(rt.alloc(), &[UP_TO_3], &line)?, want);
-    }
-    Ok(())
-}
-
 // Whether each point of the second piece is one of the first.
 fn is_included(alloc: Global, first: &[Line], second: &[Line]) -> Result<bool, Fail> {
     let p = piece(alloc, first)?;
@@ -161,7 +111,10 @@ fn is_included(alloc: Global, first: &[Line], second: &[Line]) -> Result<bool, F
 }
 
 #[test]
-fn includes_pieces(rt: HostRuntime) -> Result<(), Fail> {
+fn compares_pieces(rt: HostRuntime) -> Result<(), Fail> {
+    for (line, want) in [(BELOW_4, true), (BELOW_3, false)] {
+        assert_eq!(rt; is_entailed(rt.alloc(), &[UP_TO_3], &line)?, want);
+    }
     let wide = [FROM_0, UP_TO_10];
     let narrow = [ABOVE_2, UP_TO_3];
     assert!(rt; is_included(rt.alloc(), &wide, &narrow)?);
@@ -169,96 +122,82 @@ fn includes_pieces(rt: HostRuntime) -> Result<(), Fail> {
     Ok(())
 }
 
-// The meet of two pieces, where there is one.
-fn common(alloc: Global, first: &[Line], second: &[Line]) -> Result<Option<Poly<Frac>>, Fail> {
-    let p = piece(alloc, first)?;
-    let q = piece(alloc, second)?;
-    Ok(meet(alloc, &p, &q)?)
-}
-
 #[test]
 fn meets_pieces(rt: HostRuntime) -> Result<(), Fail> {
-    let both = common(rt.alloc(), &[ABOVE_2], &[UP_TO_3])?.ok_or("none")?;
-    assert!(rt; are(both.rows(), &[ABOVE_2, UP_TO_3]));
-    Ok(())
-}
-
-#[test]
-fn meets_no_piece(rt: HostRuntime) -> Result<(), Fail> {
-    assert!(rt; common(rt.alloc(), &[UP_TO_3], &[ABOVE_3])?.is_none());
-    Ok(())
-}
-
-// Whether two pieces have no common point.
-fn lie_apart(alloc: Global, first: &[Line], second: &[Line]) -> Result<bool, Fail> {
-    let p = piece(alloc, first)?;
-    let q = piece(alloc, second)?;
-    Ok(are_apart(alloc, &p, &q)?)
-}
-
-#[test]
-fn tells_apart(rt: HostRuntime) -> Result<(), Fail> {
-    for (line, want) in [(ABOVE_3, true), (FROM_3, false), (ABOVE_2, false)] {
-        assert_eq!(rt; lie_apart(rt.alloc(), &[UP_TO_3], &[line])?, want);
+    let p = piece(rt.alloc(), &[UP_TO_3])?;
+    for (line, want) in [(ABOVE_2, true), (ABOVE_3, false)] {
+        let q = piece(rt.alloc(), &[line])?;
+        let both = meet(rt.alloc(), &p, &q)?;
+        assert_eq!(rt; both.is_some_and(|m| are(m.rows(), &[UP_TO_3, line])), want);
+        assert_eq!(rt; are_apart(rt.alloc(), &p, &q)?, !want);
     }
     Ok(())
 }
 
 #[test]
 fn closes_pieces(rt: HostRuntime) -> Result<(), Fail> {
-    for upper in [UP_TO_3, BELOW_3] {
-        let open = piece(rt.alloc(), &[ABOVE_2, upper])?;
-        let closed = closure(rt.alloc(), &open)?;
-        assert!(rt; are(closed.rows(), &[FROM_2, UP_TO_3]));
-    }
+    let open = piece(rt.alloc(), &[ABOVE_2, UP_TO_3])?;
+    let closed = closure(rt.alloc(), &open)?;
+    assert!(rt; are(closed.rows(), &[FROM_2, UP_TO_3]));
     Ok(())
 }
 
 #[test]
 fn projects_to_x(rt: HostRuntime) -> Result<(), Fail> {
-    let under = system(rt.alloc(), &[UP_TO_Y, Y_BELOW_3])?;
+    let rows = rows(rt.alloc(), &[UP_TO_Y, Y_BELOW_3])?;
+    let under = trim(rt.alloc(), 2, rows)?;
     let first = project(rt.alloc(), &under, 1)?.ok_or("none")?;
-    assert_eq!(rt; first.vars(), 1);
+    let told = first
+        .rows()
+        .first()
+        .map(|row| (row.coefs.len(), row.kind, row.bound));
     assert_eq!(rt; first.rows().len(), 1);
-    assert_eq!(rt;
-        first.rows().first().map(shown),
-        Some((Some((1, 1)), Kind::Strict, (3, 1)))
-    );
+    assert_eq!(rt; told, Some((1, Kind::Strict, Frac::from(3))));
     Ok(())
 }
 
-#[test]
-fn projects_to_all(rt: HostRuntime) -> Result<(), Fail> {
-    let under = system(rt.alloc(), &[UP_TO_Y, Y_BELOW_3])?;
-    let both = project(rt.alloc(), &under, 2)?.ok_or("none")?;
-    assert!(rt; are(both.rows(), &[UP_TO_Y, Y_BELOW_3]));
-    Ok(())
-}
-
-// The piece of the points at which x and y times this number are at most 0 in sum.
-fn steep(alloc: Global, y: Frac) -> Result<Poly<Frac>, Fail>
-    ensures { IfOk result (λ p. p.width ≡ 2) }
+// x and y times this number are at most the bound in sum.
+fn steep(alloc: Global, y: i128, bound: i64) -> Result<Row<Frac>, Fail>
+    ensures { IfOk result (λ r. length r.coefs ≡ 2) }
 {
-    let coefs = [Frac::from(1), y].to_vec(alloc)?;
-    let mut rows = Vec::new(alloc);
-    rows.push(Row {
+    let coefs = [Frac::from(1), Frac::new(y, 1)?].to_vec(alloc)?;
+    Ok(Row {
         coefs,
         kind: Kind::Weak,
-        bound: Frac::from(0),
-    })?;
-    let made = make(alloc, 2, rows)?;
-    Ok(made.ok_or("none")?)
+        bound: Frac::from(bound),
+    })
+}
+
+// Two rows whose combination without y has a bound past the limit. Together they say that x is at most 2^29.
+fn steep_rows(alloc: Global) -> Result<Vec<Row<Frac>>, Fail>
+    ensures { IfOk result (λ v. AllWide 2 v.items) }
+{
+    let mut out = Vec::new(alloc);
+    out.push(steep(alloc, 1 << 100, 1 << 30)?)?;
+    out.push(steep(alloc, -(1 << 100), 0)?)?;
+    Ok(out)
+}
+
+// The same, and the line.
+fn steep_rows_with(alloc: Global, line: &Line) -> Result<Vec<Row<Frac>>, Fail>
+    ensures { IfOk result (λ v. AllWide 2 v.items) }
+{
+    let mut out = steep_rows(alloc)?;
+    out.push(row(alloc, line)?)?;
+    Ok(out)
 }
 
 #[test]
-fn refuses_wide_numbers(rt: HostRuntime) -> Result<(), Fail> {
-    let p = steep(rt.alloc(), Frac::new(i128::MAX, 1)?)?;
-    let q = steep(rt.alloc(), Frac::from(-2))?;
-    let r = steep(rt.alloc(), Frac::from(2))?;
-    let line = row(rt.alloc(), &(1, 2, Kind::Weak, 0))?;
-    assert_eq!(rt; are_apart(rt.alloc(), &p, &q), Err(Halt::Wide));
-    assert_eq!(rt; meet(rt.alloc(), &p, &q).err(), Some(Halt::Wide));
-    assert_eq!(rt; entails(rt.alloc(), &p, &line), Err(Halt::Wide));
-    assert_eq!(rt; includes(rt.alloc(), &r, &p), Err(Halt::Wide));
+fn guesses_come_first(rt: HostRuntime) -> Result<(), Fail> {
+    let p = make(rt.alloc(), 2, steep_rows(rt.alloc())?)?.ok_or("none")?;
+    assert_eq!(rt; p.rows().len(), 2);
+    let line = row(rt.alloc(), &UP_TO_FAR)?;
+    assert_eq!(rt; entails(rt.alloc(), &p, &line), Ok(true));
+    let q = piece(rt.alloc(), &[UP_TO_FAR])?;
+    assert_eq!(rt; includes(rt.alloc(), &q, &p), Ok(true));
+    assert_eq!(rt; are_apart(rt.alloc(), &q, &p), Ok(false));
+    let rows = steep_rows_with(rt.alloc(), &FROM_FAR)?;
+    let none = trim(rt.alloc(), 2, rows)?;
+    assert!(rt; project(rt.alloc(), &none, 1)?.is_none());
     Ok(())
 }

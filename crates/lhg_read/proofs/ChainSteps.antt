@@ -1,44 +1,29 @@
 -- Two or three sums with operators between are read from left to right.
 use Rattle.std.proofs.Common.{◌≡◌, ◌<◌, ◌≤◌, ◌+◌, ◌-◌, inl, inr, ℕ, List, [], ◌∷◌, ◌++◌, length, take, drop, map, refl, sym, ap, ◌∙◌, Option, Some, None, arith, get_or, append_assoc}
 use Rattle.std.specs.List.{position_or_len}
-use Rattle.std.specs.Option.{option_and_then, is_some}
 use Rattle.std.proofs.lemmas.List.{take_rest, take_all, length-drop}
 use Rattle.std.proofs.lemmas.Bool.{cases_lt}
 use Rattle.lhg_row.specs.Piece.{PlainPiece}
 use Rattle.lhg_lex.specs.PlainToken.{PlainToken}
 use Rattle.lhg_lex.specs.TextTokens.{plain_of}
 use Rattle.lhg_lex.specs.declared.tokens.Token.{Token}
-use Rattle.lhg_lex.specs.declared.tokens.Tok.{Tok}
-use Rattle.lhg_lex.specs.declared.tokens.Tok.TheVariants as tok
 use Rattle.lhg_read.specs.Cut.{Cut, cut}
 use Rattle.lhg_read.specs.Options.{joined}
-use Rattle.lhg_read.specs.Signs.{is_operator, operator_of}
-use Rattle.lhg_read.specs.Term.{width}
-use Rattle.lhg_read.specs.Sum.{sum_of}
-use Rattle.lhg_read.specs.Pair.{pair_rows, pair_of}
+use Rattle.lhg_read.specs.Signs.{is_operator}
+use Rattle.lhg_read.specs.Pair.{pair_of}
 use Rattle.lhg_read.specs.Rows.{chain_of}
 use Rattle.lhg_read.specs.declared.forms.Form.{Form}
-use Rattle.lhg_read.proofs.Cuts.{IsBlind, behind, ahead, only_part, first_part, last_part, inner_part}
+use Rattle.lhg_read.proofs.Cuts.{IsBlind, without_text, behind, ahead, only_part, first_part, last_part, inner_part}
 use Rattle.lhg_read.proofs.SumSteps.{a_token}
-use Rattle.lhg_read.proofs.ListSteps.{joined_none}
+use Rattle.lhg_read.specs.OptionLaws.{joined_none}
 
--- operators are told without the text
-same_operator : (text : List ℕ) (from to : ℕ) (kind : Tok) → operator_of (plain_of text (record { kind = kind; from = from; to = to })) ≡ operator_of (plain_of [] (record { kind = kind; from = from; to = to }))
-same_operator text from to tok.Word = refl
-same_operator text from to (tok.Number q) = refl
-same_operator text from to (tok.Sign b) = refl
-same_operator text from to (tok.TwoSign b c) = refl
-
-operator_blind : (text : List ℕ) (token : Token) → operator_of (plain_of text token) ≡ operator_of (plain_of [] token)
-operator_blind text token = same_operator text token.from token.to token.kind
-
+-- operators are told without the text, and so are the rows of a pair
 operators_blind : IsBlind is_operator
-operators_blind text token = ap is_some (operator_blind text token)
+operators_blind v w = refl
 
 pair_blind : (form : Form) (vars : List (List ℕ)) (left : List PlainToken) (text : List ℕ) (op : Token) (right : List PlainToken) → pair_of form vars left (plain_of text op) right ≡ pair_of form vars left (plain_of [] op) right
 unfolding pair_of
-pair_blind form vars left text op right =
-    ap (option_and_then (λ o. option_and_then (λ a. option_and_then (λ b. pair_rows (width form vars) o a b) (sum_of form vars right)) (sum_of form vars left))) (operator_blind text op)
+pair_blind form vars left text op right = without_text (λ o. pair_of form vars left o right) (λ v w. refl) text op
 
 -- the rows of a chain that is cut
 abbrev pub chain_at : Form → List (List ℕ) → Cut PlainToken → Option PlainPiece

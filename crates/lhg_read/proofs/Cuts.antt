@@ -1,10 +1,13 @@
 -- A list that is cut at the members that pass a test, part by part.
 use Rattle.std.proofs.Common.{◌≡◌, ◌<◌, ◌≤◌, ◌+◌, ◌-◌, ℕ, zero, suc, List, [], ◌∷◌, length, take, drop, map, refl, sym, ap, ◌∙◌, Bool, arith, get_or}
+use Rattle.std.specs.Prelude.{slice_range}
 use Rattle.std.specs.List.{position_or_len}
 use Rattle.std.proofs.lemmas.List.{take_rest, take_all, drop-drop, get_or-drop, length-drop}
 use Rattle.lhg_math.specs.Tests.{by_bool}
-use Rattle.lhg_lex.specs.PlainToken.{PlainToken}
-use Rattle.lhg_lex.specs.TextTokens.{plain_of}
+use Rattle.lhg_lex.specs.PlainToken.{PlainToken, word}
+use Rattle.lhg_lex.specs.TextTokens.{plain_kind, plain_of}
+use Rattle.lhg_lex.specs.declared.tokens.Tok.{Tok}
+use Rattle.lhg_lex.specs.declared.tokens.Tok.TheVariants as tok
 use Rattle.lhg_lex.specs.declared.tokens.Token.{Token}
 use Rattle.lhg_read.specs.Cut.{Cut, cut}
 
@@ -42,14 +45,24 @@ cut_first test (x ∷ xs) (suc n) d e h =
     later : (n : ℕ) → suc (n + 1) ≡ suc n + 1
     later n = omega arith
 
--- the test does not ask which word a token is
-abbrev pub IsBlind : (PlainToken → Bool) → Type 0
-IsBlind test = (text : List ℕ) (token : Token) → test (plain_of text token) ≡ test (plain_of [] token)
+-- what is told of a token does not ask which word it is
+abbrev pub IsBlind : {B : Type 0} → (PlainToken → B) → Type 0
+IsBlind f = (v w : List ℕ) → f (word v) ≡ f (word w)
 
--- so it passes at the same place, whatever the text
+-- so it is told without the text
+pub without_text : {B : Type 0} (f : PlainToken → B) → IsBlind f → (text : List ℕ) (token : Token) → f (plain_of text token) ≡ f (plain_of [] token)
+without_text f blind text token = by_kind token.kind
+  where
+    by_kind : (kind : Tok) → f (plain_kind (slice_range text token.from token.to) kind) ≡ f (plain_kind (slice_range [] token.from token.to) kind)
+    by_kind tok.Word = blind (slice_range text token.from token.to) (slice_range [] token.from token.to)
+    by_kind (tok.Number q) = refl
+    by_kind (tok.Sign b) = refl
+    by_kind (tok.TwoSign b c) = refl
+
+-- and a test passes at the same place, whatever the text
 same_place : (test : PlainToken → Bool) (text : List ℕ) (tokens : List Token) → IsBlind test → position_or_len test (map (plain_of text) tokens) ≡ position_or_len (λ token. test (plain_of [] token)) tokens
 same_place test text [] blind = refl
-same_place test text (token ∷ tokens) blind = rw (blind text token, same_place test text tokens blind) refl
+same_place test text (token ∷ tokens) blind = rw (without_text test blind text token, same_place test text tokens blind) refl
 
 length_plain : (text : List ℕ) (tokens : List Token) → length (map (plain_of text) tokens) ≡ length tokens
 length_plain text [] = refl

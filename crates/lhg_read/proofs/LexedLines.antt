@@ -20,6 +20,7 @@ use Rattle.lhg_lex.specs.declared.tokens.Line.{Line}
 use Rattle.lhg_lex.proofs.ReadingAnswers.{slices_of}
 use Rattle.lhg_read.specs.Lexed.{IsLexed}
 use Rattle.lhg_read.specs.PlantText.{said_in}
+use Rattle.lhg_read.specs.ReadsLaws.{same_bytes}
 use Rattle.lhg_read.specs.TokenText.{token_line, token_lines}
 use Rattle.lhg_read.proofs.Answered.{both_joined}
 use Rattle.lhg_row.specs.Members.{all-append}
@@ -64,6 +65,12 @@ pub line_lexed : (s : Reading) (line : Line) → IsTokenLine s line → All (λ 
 unfolding tokens_of
 line_lexed s line h =
     of_tokens s.bytes line.tokens.items (subst (λ ts. All IsLexed ts) (sym (ap (λ l. l.tokens) h.says)) (spots_lexed (content_of h.bytes) 0 h.spots (slices_of (content_of h.bytes) h.spots h.reads)))
+
+-- and so they are in the text behind it
+pub lexed_after : (s : Reading) (line : Line) (new : Reading) (h : IsTokenLine s line) → new ≡ record s { read = line.number } → (tokens : List Token) → tokens ≡ line.tokens.items → All (λ token. IsLexed (plain_of new.bytes token)) tokens
+lexed_after s line new h e tokens f =
+    subst (λ b. All (λ token. IsLexed (plain_of b token)) tokens) (sym (same_bytes s new line.number e))
+    (subst (λ ts. All (λ token. IsLexed (plain_of s.bytes token)) ts) (sym f) (line_lexed s line h))
 
 -- ---- all lines
 

@@ -30,5 +30,4 @@ pub mod StateReading
 pub mod StateSteps
 pub mod SumSteps
 pub mod TextLawProofs
-pub mod TokenTexts
 pub mod VariableSteps

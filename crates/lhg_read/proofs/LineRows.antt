@@ -17,6 +17,7 @@ use Rattle.lhg_row.specs.Piece.{PlainPiece}
 use Rattle.lhg_row.specs.Width.{AllWide}
 use Rattle.lhg_plant.specs.Proper.{IsLine}
 use Rattle.lhg_plant.specs.Still.{axis, still_from, still_rows}
+use Rattle.lhg_plant.specs.Limits.{most_variables}
 use Rattle.lhg_lex.specs.PlainToken.{PlainToken}
 use Rattle.lhg_read.specs.Cut.{cut, parts_of}
 use Rattle.lhg_read.specs.Options.{joined}
@@ -110,7 +111,7 @@ still_count n v zero = refl
 still_count n v (suc m) = let k = still_count n (suc v) m in omega (arith, k)
 
 -- `still` of not too many variables
-pub still_read : (n : ℕ) → n ≤ 6 → AreRead n (still_rows n)
+pub still_read : (n : ℕ) → n ≤ most_variables → AreRead n (still_rows n)
 still_read n h = read_rows n (still_rows n) (still_full n zero n (omega arith)) (let k = still_count n zero n in omega (arith, k, h))
 
 change_full : (n v : ℕ) (a b : Number) → v < n → is_nought a ≡ false → IsFull (n + n) (change_row n v a b)
@@ -204,13 +205,13 @@ limited n o rows f e =
     let c = cond_some (nat_le (length x) 64) x rows k in
     subst (λ r. AreRead n r) c.1 (read_rows n x (f x is) (let t = c.0 in grind (arith, nat_tests, t))))
 
-flow_still : (form : Form) (vars : List (List ℕ)) → is_flow form ≡ true → length vars ≤ 6 → AreRead (width form vars) (still_rows (length vars))
+flow_still : (form : Form) (vars : List (List ℕ)) → is_flow form ≡ true → length vars ≤ most_variables → AreRead (width form vars) (still_rows (length vars))
 flow_still Plain vars e h = absurd cc
 flow_still Flow vars e h = still_read (length vars) h
 flow_still Jump vars e h = absurd cc
 
 -- rows that a line gives, over not too many variables
-pub rows_read : (form : Form) (vars : List (List ℕ)) (tokens : List PlainToken) (rows : PlainPiece) → length vars ≤ 6 → rows_of form vars tokens ≡ Some rows → AreRead (width form vars) rows
+pub rows_read : (form : Form) (vars : List (List ℕ)) (tokens : List PlainToken) (rows : PlainPiece) → length vars ≤ most_variables → rows_of form vars tokens ≡ Some rows → AreRead (width form vars) rows
 unfolding rows_of
 rows_read form vars tokens rows few e =
     by_bool (is_one_word (codes "all") tokens)

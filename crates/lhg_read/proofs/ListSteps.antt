@@ -1,5 +1,5 @@
 -- A list of constraints is read one after another.
-use Rattle.std.proofs.Common.{◌≡◌, ◌<◌, ◌≤◌, ◌+◌, ◌-◌, inl, inr, ℕ, List, [], ◌++◌, length, take, drop, map, refl, sym, ap, ◌∙◌, true, false, Option, Some, None, arith, append_assoc, append-nil, length-append, nat_le}
+use Rattle.std.proofs.Common.{◌≡◌, ◌<◌, ◌≤◌, ◌+◌, ◌-◌, inl, inr, ℕ, List, [], ◌++◌, length, take, drop, map, refl, sym, ap, ◌∙◌, true, false, Option, Some, None, arith, append-nil, length-append, nat_le}
 use Rattle.std.specs.Option.{option_and_then}
 use Rattle.std.proofs.lemmas.Bool.Decides.{nat_tests}
 use Rattle.std.proofs.lemmas.Bool.{cases_lt}
@@ -7,42 +7,22 @@ use Rattle.lhg_row.specs.Piece.{PlainPiece}
 use Rattle.lhg_lex.specs.PlainToken.{PlainToken}
 use Rattle.lhg_lex.specs.TextTokens.{plain_of}
 use Rattle.lhg_lex.specs.declared.tokens.Token.{Token}
-use Rattle.lhg_lex.specs.declared.tokens.Tok.{Tok}
-use Rattle.lhg_lex.specs.declared.tokens.Tok.TheVariants as tok
 use Rattle.lhg_read.specs.Cut.{cut, parts_of}
 use Rattle.lhg_read.specs.Options.{joined}
+use Rattle.lhg_read.specs.OptionLaws.{joined_assoc, joined_back}
 use Rattle.lhg_read.specs.Signs.{is_comma}
 use Rattle.lhg_read.specs.Rows.{constraint_of, constraints_of, within_limit}
 use Rattle.lhg_read.specs.declared.forms.Form.{Form}
 use Rattle.lhg_read.proofs.Cuts.{IsBlind, ahead, last_part, inner_part}
 use Rattle.lhg_read.proofs.SumSteps.{a_token}
 
-comma_by_kind : (text : List ℕ) (from to : ℕ) (kind : Tok) → is_comma (plain_of text (record { kind = kind; from = from; to = to })) ≡ is_comma (plain_of [] (record { kind = kind; from = from; to = to }))
-comma_by_kind text from to tok.Word = refl
-comma_by_kind text from to (tok.Number q) = refl
-comma_by_kind text from to (tok.Sign b) = refl
-comma_by_kind text from to (tok.TwoSign b c) = refl
-
+-- commas are told without the text
 pub commas_blind : IsBlind is_comma
-commas_blind text token = comma_by_kind text token.from token.to token.kind
+commas_blind v w = refl
 
 -- the rows of the constraints between commas, however many they are
 abbrev pub rows_at : Form → List (List ℕ) → List PlainToken → Option PlainPiece
 rows_at form vars tokens = constraints_of form vars (parts_of (cut is_comma tokens))
-
-joined_one : (o : Option PlainPiece) → joined o (Some []) ≡ o
-joined_one None = refl
-joined_one (Some rows) = ap (λ r. Some r) (append-nil rows)
-
-pub joined_assoc : (a b c : Option PlainPiece) → joined (joined a b) c ≡ joined a (joined b c)
-joined_assoc None b c = refl
-joined_assoc (Some x) None c = refl
-joined_assoc (Some x) (Some y) None = refl
-joined_assoc (Some x) (Some y) (Some z) = ap (λ r. Some r) (append_assoc x y z)
-
-pub joined_none : (a : Option PlainPiece) → joined a None ≡ None
-joined_none None = refl
-joined_none (Some rows) = refl
 
 module _ (form : Form) (vars : List (List ℕ)) (text : List ℕ) (tokens : List Token) (at n : ℕ) (within : at ≤ length tokens) (is : n ≡ ahead is_comma tokens at) where
   -- the constraint up to the next comma
@@ -53,7 +33,7 @@ module _ (form : Form) (vars : List (List ℕ)) (text : List ℕ) (tokens : List
   now = rows_at form vars (map (plain_of text) (drop at tokens))
 
   last_here : length tokens ≤ at + n → now ≡ here
-  last_here h = ap (λ c. constraints_of form vars (parts_of c)) (last_part is_comma commas_blind text tokens at n within is h) ∙ joined_one here
+  last_here h = ap (λ c. constraints_of form vars (parts_of c)) (last_part is_comma commas_blind text tokens at n within is h) ∙ joined_back here
 
   more_here : (d : Token) → at + n < length tokens → now ≡ joined here (rows_at form vars (map (plain_of text) (drop (at + n + 1) tokens)))
   more_here d h = ap (λ c. constraints_of form vars (parts_of c)) (inner_part is_comma commas_blind text tokens at n within is d h)
@@ -62,7 +42,7 @@ module _ (form : Form) (vars : List (List ℕ)) (text : List ℕ) (tokens : List
   begins : (rest : Option PlainPiece) × (now ≡ joined here rest)
   begins = elim (cases_lt (at + n) (length tokens)) [
     | inl more ↦ (_, more_here a_token more)
-    | inr past ↦ (Some [], last_here past ∙ sym (joined_one here))
+    | inr past ↦ (Some [], last_here past ∙ sym (joined_back here))
   ]
 
   module _ (all : Option PlainPiece) (old : PlainPiece) (left : all ≡ joined (Some old) now) where
@@ -85,7 +65,7 @@ module _ (form : Form) (vars : List (List ℕ)) (text : List ℕ) (tokens : List
       -- the last constraint
       pub last_constraint : length new ≤ 64 → length tokens ≤ at + n → option_and_then within_limit all ≡ Some new
       last_constraint h past =
-          ap (option_and_then within_limit) (starts_with (Some []) (last_here past ∙ sym (joined_one here)) ∙ ap (λ r. Some r) (append-nil new))
+          ap (option_and_then within_limit) (starts_with (Some []) (last_here past ∙ sym (joined_back here)) ∙ ap (λ r. Some r) (append-nil new))
           ∙ (let f : nat_le (length new) 64 ≡ true = grind (arith, nat_tests, h) in rw f refl)
 
       -- a constraint with more behind it

@@ -1,5 +1,5 @@
 -- From each state of the reader some further lines make a plant.
-use Rattle.std.proofs.Common.{◌≡◌, ◌≤◌, ℕ, List, [], ◌∷◌, ◌++◌, length, map, refl, sym, ap, ◌∙◌, subst, true, false, cond, Some, None, Ok, arith, append_assoc, append-nil, length-append, codes}
+use Rattle.std.proofs.Common.{◌≡◌, ◌≤◌, ℕ, List, [], ◌∷◌, ◌++◌, length, map, refl, sym, ap, ◌∙◌, subst, true, false, cond, Some, None, Ok, arith, append-nil, length-append, codes}
 use Rattle.std.specs.Option.{option_and_then}
 use Rattle.std.proofs.lemmas.List.{length-map, map-append}
 use Rattle.lhg_math.specs.Number.{unit}
@@ -7,17 +7,17 @@ use Rattle.lhg_math.specs.Tests.{false_true}
 use Rattle.lhg_lex.specs.PlainToken.{PlainToken, word, number}
 use Rattle.lhg_lex.specs.Longest.{longest}
 use Rattle.lhg_lex.specs.LineTokens.{Spot, tokens_of}
-use Rattle.lhg_read.specs.Options.{joined}
 use Rattle.lhg_read.specs.PlantLine.{line_of}
 use Rattle.lhg_read.specs.PlantText.{location_of, said_in, IsHead, IsPlant, IsSomePlant}
 use Rattle.lhg_read.specs.PlantSteps.{PlainDraft, empty_draft, is_nil, taken, all_taken, plant_with}
-use Rattle.lhg_read.specs.TokenText.{token_line, token_lines}
+use Rattle.lhg_read.specs.Reads.{CanGoOn}
+use Rattle.lhg_read.specs.ReadsLaws.{on_by}
 use Rattle.lhg_read.specs.Begun.{IsBegun}
 use Rattle.lhg_read.proofs.PlantParts.{not_nil}
-use Rattle.lhg_read.proofs.PlantStates.{State, nothing, stands, ends, states, going_on}
+use Rattle.lhg_read.specs.MachineLaws.{going_on}
+use Rattle.lhg_read.proofs.PlantStates.{State, nothing, stands, ends, states}
 use Rattle.lhg_read.proofs.PlantTexts.{Say, say_all, plant_of_begun}
 use Rattle.lhg_read.proofs.PlantRefusals.{all_taken-append}
-use Rattle.lhg_read.proofs.TokenTexts.{CanGoOn}
 
 -- ---- four lines
 
@@ -60,15 +60,6 @@ unfolding longest tokens_of spot end_spots
 end_tokens = refl
 
 -- ---- one line on
-
--- where a text goes on behind a line, it goes on before it
-pub on_by : (Is : List (List Spot) → Type 0) (tokens : List (List Spot)) (line : List ℕ) (spots : List Spot) → tokens_of line ≡ Ok spots → token_line (Ok spots) ≡ Some (spots ∷ []) → CanGoOn Is (tokens ++ spots ∷ []) → CanGoOn Is tokens
-on_by Is tokens line spots e f c = record {
-  more = line ∷ c.more;
-  further = spots ∷ c.further;
-  are = ap (λ o. joined (token_line o) (token_lines c.more)) e ∙ ap (λ o. joined o (token_lines c.more)) f ∙ ap (joined (Some (spots ∷ []))) c.are;
-  is = subst (λ ts. Is ts) (append_assoc tokens (spots ∷ []) c.further) c.is;
-}
 
 -- a line more is taken
 pub begun_more : (lines : List (List Spot)) (vars : List (List ℕ)) (d e : PlainDraft) (spots : List Spot) (b : IsBegun lines vars d) → d.ended ≡ false → taken vars d (said_in spots) ≡ Some e → IsBegun (lines ++ spots ∷ []) vars e

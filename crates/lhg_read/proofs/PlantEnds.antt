@@ -10,9 +10,9 @@ use Rattle.lhg_read.specs.PlantSteps.{PlainDraft, all_taken}
 use Rattle.lhg_read.specs.PlantTextLaws.{PlantTextLaws}
 use Rattle.lhg_read.specs.TokenText.{token_line, token_lines}
 use Rattle.lhg_read.proofs.PlantRefusals as PlantRefusals
-use Rattle.lhg_read.proofs.PlantStates.{ended_none}
+use Rattle.lhg_read.specs.MachineLaws.{ended_none}
 use Rattle.lhg_read.proofs.PlantTexts.{begun_of_plant}
-use Rattle.lhg_read.proofs.TokenTexts.{token_lines-append, blank_lines, parts_of}
+use Rattle.lhg_read.specs.TokenLineLaws.{token_lines-append, blank_lines, parts_of}
 
 -- ---- tokens
 

@@ -20,6 +20,7 @@ use Rattle.lhg_plant.specs.Printable.{HasVariables, IsPrintable}
 use Rattle.lhg_plant.specs.Proper.{IsLine, IsLocation, IsSwitch, IsProper}
 use Rattle.lhg_plant.specs.Still.{still_rows}
 use Rattle.lhg_plant.specs.Word.{IsName, IsVariable}
+use Rattle.lhg_plant.specs.Limits.{most_variables}
 use Rattle.lhg_read.specs.Lexed.{IsLexed}
 use Rattle.lhg_read.specs.Names.{name_of, one_name, is_taken, variable_name, variable_names, proper_variables, vars_of}
 use Rattle.lhg_read.specs.PlantLine.{BlockLine, inv, flow, safe, WrittenSwitch, PlantLine, loc, block, switch, end, side_of, switch_of, nothing_more, line_by, line_of}
@@ -80,14 +81,14 @@ variables_read (token ∷ tokens) names h e =
 record AreVariables (vars : List (List ℕ)) : Type 0 where
   each : AllOf IsVariable vars
   some : 0 < length vars
-  few : length vars ≤ 6
+  few : length vars ≤ most_variables
   differ : all_differ vars ≡ true
 
 proper_are : (names vars : List (List ℕ)) → AllOf IsVariable names → proper_variables names ≡ Some vars → AreVariables vars
 proper_are names vars h e =
-    let c = cond_some (nat_le 1 (length names) && (nat_le (length names) 6 && all_differ names)) names vars e in
+    let c = cond_some (nat_le 1 (length names) && (nat_le (length names) most_variables && all_differ names)) names vars e in
     let a = and_parts (nat_le 1 (length names)) _ c.0 in
-    let b = and_parts (nat_le (length names) 6) (all_differ names) a.1 in
+    let b = and_parts (nat_le (length names) most_variables) (all_differ names) a.1 in
     subst (λ ns. AreVariables ns) c.1
     (record { each = h; some = let t = a.0 in grind (arith, nat_tests, t); few = let t = b.0 in grind (arith, nat_tests, t); differ = b.1 })
 
@@ -110,7 +111,7 @@ IsGood n (block (safe rows)) = AreRead n rows
 IsGood n (switch s) = IsName s.name × AreRead (n + n) s.jump
 IsGood n end = Unit {0}
 
-module _ (vars : List (List ℕ)) (few : length vars ≤ 6) where
+module _ (vars : List (List ℕ)) (few : length vars ≤ most_variables) where
   abbrev Good : PlantLine → Type 0
   Good l = IsGood (length vars) l
 
@@ -212,7 +213,7 @@ module _ (n : ℕ) where
       unblocked [] h = tt
       unblocked (line ∷ lines) h = (h.0, unblocked lines h.1)
 
-  module _ (few : n ≤ 6) where
+  module _ (few : n ≤ most_variables) where
     none_read : AreRead n []
     none_read = record { line = record { wide = tt; few = omega arith }; vary = tt }
 

@@ -1,79 +1,31 @@
 -- A plant is read line by line: what holds between two lines, and at each end.
-use Rattle.std.proofs.Common.{◌≡◌, ◌≤◌, ◌+◌, inl, inr, ℕ, List, [], ◌∷◌, ◌++◌, length, map, refl, sym, ap, ◌∙◌, subst, true, false, Option, Some, None}
-use Rattle.std.specs.List.{All}
-use Rattle.lhg_lex.specs.Lines.{lines_of}
+use Rattle.std.proofs.Common.{◌≡◌, ◌≤◌, ℕ, List, [], ◌∷◌, ◌++◌, length, map, refl, sym, ap, ◌∙◌, true, false, Some, codes}
 use Rattle.lhg_lex.specs.LineTokens.{Spot}
 use Rattle.lhg_lex.specs.TextTokens.{plain_of}
 use Rattle.lhg_lex.specs.Reading.{Reading, IsTokenLine}
 use Rattle.lhg_lex.specs.declared.stops.ReadStop.{ReadStop}
-use Rattle.lhg_lex.specs.declared.stops.ReadStop.TheVariants.{Bad, Memory}
-use Rattle.lhg_lex.specs.declared.stops.What.TheVariants.{NotHere}
 use Rattle.lhg_lex.specs.declared.tokens.Line.{Line}
 use Rattle.lhg_lex.specs.declared.tokens.Token.{Token}
 use Rattle.lhg_plant.specs.Printable.{IsPrintable}
 use Rattle.lhg_plant.specs.Proper.{IsProper}
 use Rattle.lhg_read.specs.Names.{vars_of}
-use Rattle.lhg_read.specs.PlantText.{said_in, IsHead, IsPlant, IsSomePlant, IsSomePlantText}
+use Rattle.lhg_read.specs.PlantText.{IsHead, IsPlant, IsSomePlant, IsSomePlantText}
 use Rattle.lhg_read.specs.PlantSteps.{PlainDraft, empty_draft, taken, plant_with}
 use Rattle.lhg_read.specs.Begun.{IsBegun}
+use Rattle.lhg_read.specs.FaultLaws.{no_line_cause, refused_cause, refused_line}
 use Rattle.lhg_read.specs.HeadTest.{head_test}
-use Rattle.lhg_read.specs.Lexed.{IsLexed}
+use Rattle.lhg_read.specs.Reads.{Reads}
+use Rattle.lhg_read.specs.ReadsLaws.{reads_nothing, reads_more, reads_text, said_after, same_bytes}
 use Rattle.lhg_read.specs.Refusals.{stop_at, IsRefused}
-use Rattle.lhg_read.specs.TokenText.{token_lines, IsTextBy, IsReadTo, ReadsText, HasCause, IsFirstFault, IsNoLine}
+use Rattle.lhg_read.specs.TokenText.{ReadsText, HasCause, IsNoLine}
 use Rattle.lhg_read.specs.declared.refusal.Refusal.{Refusal}
 use Rattle.lhg_read.specs.declared.refusal.Refusal.TheVariants as refusal
 use Rattle.lhg_read.proofs.HeadLines.{head_true, head_false}
-use Rattle.lhg_read.proofs.LexedLines.{line_lexed, lines_lexed}
+use Rattle.lhg_read.proofs.LexedLines.{lines_lexed}
 use Rattle.lhg_read.proofs.PlantTexts.{plant_of_begun}
 use Rattle.lhg_read.proofs.PlantProper.{plant_proper, plant_printable}
 use Rattle.lhg_read.proofs.PlantRefusals.{no_head, no_vars, no_line, none_at_start, none_at_head, none_yet}
 use Rattle.lhg_read.proofs.PlantContinues.{from_nothing, from_head, from_begun, begun_more, begun_few}
-use Rattle.lhg_read.proofs.TokenTexts.{Reads, EndsFull, NoneYet, CanGoOn, reads_nothing, reads_more, refused_line, faulty_line, missing_line}
-
--- ---- no line comes
-
--- where no line comes, that is the first fault
-pub no_line_cause : (Is : List (List Spot) → Type 0) (old s : Reading) (tokens : List (List Spot)) → Reads old s tokens → CanGoOn Is tokens → NoneYet Is tokens → (stop : ReadStop) → IsNoLine s stop → HasCause (IsTextBy Is) old stop
-no_line_cause Is old s tokens r can none Memory h = tt
-no_line_cause Is old s tokens r can none (Bad line column what) (inl h) = faulty_line Is old s tokens r can none line column what h
-no_line_cause Is old s tokens r can none (Bad line column what) (inr h) =
-    subst (λ k. IsFirstFault (IsTextBy Is) old k column what) (sym h.2)
-    (subst (λ w. IsFirstFault (IsTextBy Is) old (length (lines_of s.bytes) + 1) column w) (sym h.4)
-    (subst (λ c. IsFirstFault (IsTextBy Is) old (length (lines_of s.bytes) + 1) c NotHere) (sym h.3)
-    (missing_line Is old s tokens r can none (length (lines_of s.bytes)) h.0 refl h.1)))
-
--- a line that is refused
-pub refused_cause : (Is : List (List Spot) → Type 0) (old s : Reading) (tokens : List (List Spot)) → Reads old s tokens → CanGoOn Is tokens → NoneYet Is tokens → (line : Line) (h : IsTokenLine s line) → {A : Type 0} (r : Refusal) (o : Option A)
-    → (o ≡ None → (more : List (List Spot)) → ¬ Is (tokens ++ h.spots ∷ more)) → IsRefused r o → HasCause (IsTextBy Is) old (stop_at r line.number)
-refused_cause Is old s tokens r can none line h refusal.NotHere o bad k = refused_line Is old s tokens r can none line h (bad k)
-refused_cause Is old s tokens r can none line h refusal.Memory o bad k = tt
-
--- ---- the end of a text
-
--- lines with tokens that are read are a text where their tokens are in the grammar
-pub reads_text : (Is : List (List Spot) → Type 0) (old s : Reading) (tokens : List (List Spot)) (r : Reads old s tokens) → Is tokens → (tokens ≡ [] → ⊥) → ReadsText Is old s
-reads_text Is old s tokens r is some = by_full r.full
-  where
-    same : (ts us : List (List Spot)) → Some ts ≡ Some us → us ≡ ts
-    same ts us e = cc
-
-    by_full : EndsFull r.front → ReadsText Is old s
-    by_full (inl e) = absurd (some (same [] tokens (ap token_lines (sym e) ∙ r.are)))
-    by_full (inr x) = record {
-      before = x.0;
-      last = x.1;
-      read = subst (λ ls. IsReadTo old s ls) x.2 r.read;
-      text = record { tokens = tokens; are = ap token_lines (sym x.2) ∙ r.are; is = is };
-      not_blank = x.3;
-    }
-
--- ---- what the tokens of a line say
-
--- in the text, and by themselves
-pub said_is : (s : Reading) (line : Line) (h : IsTokenLine s line) → map (plain_of s.bytes) line.tokens.items ≡ said_in h.spots
-said_is s line h = ap (λ l. l.tokens) h.says
-
--- ---- fewer lines are left
 
 -- ---- between two lines
 
@@ -87,35 +39,22 @@ pub record AfterHead (old s : Reading) : Type 0 where
 abbrev pub Between : Reading → Reading → List (List ℕ) → PlainDraft → Type 0
 Between old s vars d = (tokens : List (List Spot)) × Reads old s tokens × IsBegun tokens vars d
 
-same_bytes : (s new : Reading) (n : ℕ) → new ≡ record s { read = n } → new.bytes ≡ s.bytes
-same_bytes s new n e = ap (λ (x : Reading). x.bytes) e
-
--- what the tokens of a line say, in the text behind it
-pub said_after : (s : Reading) (line : Line) (new : Reading) (h : IsTokenLine s line) → new ≡ record s { read = line.number } → (tokens : List Token) → tokens ≡ line.tokens.items → map (plain_of new.bytes) tokens ≡ said_in h.spots
-said_after s line new h e tokens f = ap (λ b. map (plain_of b) tokens) (same_bytes s new line.number e) ∙ ap (map (plain_of s.bytes)) f ∙ said_is s line h
-
--- the words are words there too
-pub lexed_after : (s : Reading) (line : Line) (new : Reading) (h : IsTokenLine s line) → new ≡ record s { read = line.number } → (tokens : List Token) → tokens ≡ line.tokens.items → All (λ token. IsLexed (plain_of new.bytes token)) tokens
-lexed_after s line new h e tokens f =
-    subst (λ b. All (λ token. IsLexed (plain_of b token)) tokens) (sym (same_bytes s new line.number e))
-    (subst (λ ts. All (λ token. IsLexed (plain_of s.bytes token)) ts) (sym f) (line_lexed s line h))
-
 -- no line at the beginning
 pub nothing_comes : (s : Reading) (stop : ReadStop) → IsNoLine s stop → HasCause IsSomePlantText s stop
 nothing_comes s stop h = no_line_cause IsSomePlant s s [] (reads_nothing s) from_nothing none_at_start stop h
 
 -- another first line
-pub not_head : (s : Reading) (line : Line) (new : Reading) (h : IsTokenLine s line) → new ≡ record s { read = line.number } → (tokens : List Token) → tokens ≡ line.tokens.items → head_test new.bytes tokens ≡ false
+pub not_head : (s : Reading) (line : Line) (new : Reading) (h : IsTokenLine s line) → new ≡ record s { read = line.number } → (tokens : List Token) → tokens ≡ line.tokens.items → head_test (codes "lhg") new.bytes tokens ≡ false
     → HasCause IsSomePlantText s (stop_at refusal.NotHere line.number)
 not_head s line new h e tokens f k =
-    let test : head_test s.bytes line.tokens.items ≡ false = ap (λ b. head_test b line.tokens.items) (sym (same_bytes s new line.number e)) ∙ ap (head_test new.bytes) (sym f) ∙ k in
-    refused_line IsSomePlant s s [] (reads_nothing s) from_nothing none_at_start line h (λ more p. no_head h.spots more p.0 (head_false s line h test) p.1)
+    let test : head_test (codes "lhg") s.bytes line.tokens.items ≡ false = ap (λ b. head_test (codes "lhg") b line.tokens.items) (sym (same_bytes s new line.number e)) ∙ ap (head_test (codes "lhg") new.bytes) (sym f) ∙ k in
+    refused_line IsSomePlant s s [] (reads_nothing s) from_nothing none_at_start line h (λ more p. no_head h.spots more p.0 (head_false (codes "lhg") s line h test) p.1)
 
 -- the head
-pub after_head : (s : Reading) (line : Line) (new : Reading) (h : IsTokenLine s line) → new ≡ record s { read = line.number } → (tokens : List Token) → tokens ≡ line.tokens.items → head_test new.bytes tokens ≡ true → AfterHead s new
+pub after_head : (s : Reading) (line : Line) (new : Reading) (h : IsTokenLine s line) → new ≡ record s { read = line.number } → (tokens : List Token) → tokens ≡ line.tokens.items → head_test (codes "lhg") new.bytes tokens ≡ true → AfterHead s new
 after_head s line new h e tokens f k =
-    let test : head_test s.bytes line.tokens.items ≡ true = ap (λ b. head_test b line.tokens.items) (sym (same_bytes s new line.number e)) ∙ ap (head_test new.bytes) (sym f) ∙ k in
-    record { spots = h.spots; reads = reads_more s s [] line new (reads_nothing s) h e; head = head_true s line h test }
+    let test : head_test (codes "lhg") s.bytes line.tokens.items ≡ true = ap (λ b. head_test (codes "lhg") b line.tokens.items) (sym (same_bytes s new line.number e)) ∙ ap (head_test (codes "lhg") new.bytes) (sym f) ∙ k in
+    record { spots = h.spots; reads = reads_more s s [] line new (reads_nothing s) h e; head = head_true (codes "lhg") s line h test }
 
 module _ (old s : Reading) (a : AfterHead old s) where
   -- no line behind the head

@@ -11,7 +11,7 @@ use Rattle.lhg_read.specs.Names.{vars_of}
 use Rattle.lhg_read.specs.PlantText.{said_in, IsHead, IsPlant, IsSomePlant}
 use Rattle.lhg_read.specs.PlantSteps.{PlainDraft, empty_draft, taken, all_taken, plant_with}
 use Rattle.lhg_read.specs.Begun.{IsBegun}
-use Rattle.lhg_read.proofs.PlantStates.{ended_none}
+use Rattle.lhg_read.specs.MachineLaws.{ended_none}
 use Rattle.lhg_read.proofs.PlantTexts.{begun_of_plant}
 
 -- lines behind other lines
@@ -38,7 +38,7 @@ pub not_empty : (p : PlainPlant) → ¬ IsPlant [] p
 not_empty p h = let e = h.lines_are in absurd cc
 
 pub no_head : (line : List Spot) (more : List (List Spot)) (p : PlainPlant) → ¬ IsHead line → ¬ IsPlant (line ∷ more) p
-no_head line more p bad h = bad (subst (λ l. IsHead l) (first line h.head more (h.vars ∷ h.rest) h.lines_are) h.head_is)
+no_head line more p bad h = bad (subst IsHead (first line h.head more (h.vars ∷ h.rest) h.lines_are) h.head_is)
   where
     first : (a b : List Spot) (xs ys : List (List Spot)) → a ∷ xs ≡ b ∷ ys → b ≡ a
     first a b xs ys e = cc
@@ -93,21 +93,6 @@ module _ (lines : List (List Spot)) (vars : List (List ℕ)) (d : PlainDraft) (b
       by_end : (b : Bool) → cond b None (let x : Option PlainDraft = None in x) ≡ None
       by_end true = refl
       by_end false = refl
-
-  -- lines without an end
-  pub no_end : (p : PlainPlant) → d.ended ≡ false → ¬ IsPlant lines p
-  no_end p going h =
-      let g = goes_on [] p (subst (λ ls. IsPlant ls p) (sym (plain lines)) h) in
-      let e : d ≡ g.0 = same_Some d g.0 g.1 in
-      false_true (sym going ∙ ap (λ (x : PlainDraft). x.ended) e ∙ g.2)
-    where
-      plain : (xs : List (List Spot)) → xs ++ [] ≡ xs
-      plain [] = refl
-      plain (x ∷ xs) = ap (λ ys. x ∷ ys) (plain xs)
-
-  -- lines that have ended are a plant, and no further line with tokens is one too
-  pub no_more : (line : List Spot) (more : List (List Spot)) (p : PlainPlant) → d.ended ≡ true → ¬ IsPlant (lines ++ line ∷ more) p
-  no_more line more p ended h = let g = goes_on (line ∷ more) p h in absurd (none-some g.0 (sym (ended_none d.ended _ ended) ∙ g.1))
 
 -- no beginning of lines that have not ended is a plant
 pub none_yet : (lines : List (List Spot)) (vars : List (List ℕ)) (d : PlainDraft) → IsBegun lines vars d → d.ended ≡ false → (a b : List (List Spot)) → lines ≡ a ++ b → ¬ IsSomePlant a

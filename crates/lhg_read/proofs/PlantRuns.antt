@@ -13,7 +13,7 @@ use Rattle.lhg_read.specs.PlantLine.{BlockLine, inv, flow, safe, WrittenSwitch, 
 use Rattle.lhg_read.specs.PlantText.{Block, invs_of, flows_of, safes_of, rows_or, IsBlock, location_of, switch_at, block_lines, plant_lines}
 use Rattle.lhg_read.specs.PlantSteps.{PlainDraft, empty_draft, is_nil, with_last, safe_lines, loc_names, switch_names, is_open, begun, with_inv, with_flow, with_safe, may_begin, may_switch, step, steps}
 use Rattle.lhg_read.proofs.PlantParts.{with_last-append, safe_lines-append, not_nil, same_location, switch_name, names_of_blocks}
-use Rattle.lhg_read.proofs.PlantStates.{going_on}
+use Rattle.lhg_read.specs.MachineLaws.{going_on}
 
 -- one step of a draft that has not ended
 one_step : (n : ℕ) (d e : PlainDraft) (l : PlantLine) (rest : List PlantLine) → d.ended ≡ false → step n d l ≡ Some e → steps n d (l ∷ rest) ≡ steps n e rest

@@ -5,6 +5,7 @@ use Rattle.std.specs.Option.{option_and_then, option_map}
 use Rattle.std.proofs.lemmas.Option.{none-some, same_Some}
 use Rattle.lhg_math.specs.Tests.{by_bool}
 use Rattle.lhg_plant.specs.Plant.{PlainSwitch}
+use Rattle.lhg_read.specs.MachineLaws.{ended_none, going_on}
 use Rattle.lhg_read.specs.PlantLine.{inv, flow, safe, PlantLine, loc, block, switch, end}
 use Rattle.lhg_read.specs.PlantText.{switch_at}
 use Rattle.lhg_read.specs.PlantSteps.{PlainDraft, empty_draft, is_nil, safe_lines, loc_names, is_open, begun, may_begin, may_switch, step, steps}
@@ -21,12 +22,6 @@ pub data State (n : ℕ) (lines : List PlantLine) (d : PlainDraft) : Type 0 wher
 chosen : (b : Bool) (x e : PlainDraft) → (let none : Option PlainDraft = None in cond b (Some x) none ≡ Some e) → (b ≡ true) × (x ≡ e)
 chosen true x e h = (refl, same_Some x e h)
 chosen false x e h = absurd (none-some e h)
-
-pub ended_none : (b : Bool) (o : Option PlainDraft) → b ≡ true → cond b None o ≡ None
-ended_none b o t = ap (λ x. cond x None o) t
-
-pub going_on : (b : Bool) (o : Option PlainDraft) → b ≡ false → cond b None o ≡ o
-going_on b o t = ap (λ x. cond x None o) t
 
 true_false : {P : Type 0} → true ≡ false → P
 true_false h = absurd cc

@@ -9,7 +9,8 @@ use Rattle.lhg_read.specs.PlantLine.{PlantLine, line_of}
 use Rattle.lhg_read.specs.PlantText.{plant_lines, said_in, IsPlant}
 use Rattle.lhg_read.specs.PlantSteps.{PlainDraft, empty_draft, step, steps, all_taken, plant_with}
 use Rattle.lhg_read.specs.Begun.{IsBegun}
-use Rattle.lhg_read.proofs.PlantStates.{State, nothing, stands, ends, states, going_on, ended_none}
+use Rattle.lhg_read.specs.MachineLaws.{going_on, ended_none}
+use Rattle.lhg_read.proofs.PlantStates.{State, nothing, stands, ends, states}
 use Rattle.lhg_read.proofs.PlantRuns.{plant_taken}
 
 -- ---- lines and what they say

@@ -7,13 +7,11 @@ use Rattle.lhg_math.specs.Number.{Number}
 use Rattle.lhg_lex.specs.PlainToken.{PlainToken}
 use Rattle.lhg_lex.specs.TextTokens.{plain_of}
 use Rattle.lhg_lex.specs.declared.tokens.Token.{Token}
-use Rattle.lhg_lex.specs.declared.tokens.Tok.{Tok}
-use Rattle.lhg_lex.specs.declared.tokens.Tok.TheVariants as tok
 use Rattle.lhg_read.specs.Cut.{cut, parts_of}
 use Rattle.lhg_read.specs.Options.{consed, joined}
-use Rattle.lhg_read.specs.Signs.{is_comma, is_word}
+use Rattle.lhg_read.specs.Signs.{is_comma, is_minus, is_word}
 use Rattle.lhg_read.specs.PointText.{is_equals, number_in, signed_number, coordinate_of, coordinates_of, point_of}
-use Rattle.lhg_read.proofs.Cuts.{ahead, last_part, inner_part}
+use Rattle.lhg_read.proofs.Cuts.{without_text, ahead, last_part, inner_part}
 use Rattle.lhg_read.proofs.ListSteps.{commas_blind}
 use Rattle.lhg_read.proofs.SumSteps.{a_token, minus_blind}
 
@@ -69,10 +67,6 @@ module _ (vars : List (List ℕ)) (text : List ℕ) (tokens : List Token) (k fro
   rest_is parts e = ap (λ names. coordinates_of names (parts_from text tokens from)) names_left ∙ ap (coordinates_of (name ∷ drop (k + 1) vars)) e
 
   module _ (all : Option (List Number)) (read : List Number) (left : all ≡ joined (Some read) (rest_of vars text tokens k from)) where
-    -- no part is left for the variable
-    pub no_part : length tokens < from → all ≡ None
-    no_part h = left ∙ ap (joined (Some read)) (rest_is [] (past_end text tokens from h))
-
     module _ (n : ℕ) (within : from ≤ length tokens) (is : n ≡ ahead is_comma tokens from) where
       split : all ≡ joined (Some read) (consed (coordinate_of name (part_at text tokens from n)) (rest_of vars text tokens (k + 1) (from + n + 1)))
       split = left ∙ ap (joined (Some read)) (rest_is _ (part_here text tokens from n within is))
@@ -85,49 +79,13 @@ module _ (vars : List (List ℕ)) (text : List ℕ) (tokens : List Token) (k fro
       pub coordinate_read : (q : Number) → Some q ≡ coordinate_of name (part_at text tokens from n) → all ≡ joined (Some (read ++ q ∷ [])) (rest_of vars text tokens (k + 1) (from + n + 1))
       coordinate_read q e = split ∙ ap (λ o. joined (Some read) (consed o (rest_of vars text tokens (k + 1) (from + n + 1)))) (sym e) ∙ one_more read q _
 
--- behind the last variable
-module _ (vars : List (List ℕ)) (text : List ℕ) (tokens : List Token) (k from : ℕ) (every : length vars ≤ k) (all : Option (List Number)) (read : List Number) (left : all ≡ joined (Some read) (rest_of vars text tokens k from)) where
-  rest_by : (parts : List (List PlainToken)) → parts_from text tokens from ≡ parts → all ≡ joined (Some read) (coordinates_of [] parts)
-  rest_by parts e = left ∙ ap (λ names. joined (Some read) (coordinates_of names (parts_from text tokens from))) (drop_all k vars every) ∙ ap (λ ps. joined (Some read) (coordinates_of [] ps)) e
-
-  -- a part more
-  pub part_too_much : from ≤ length tokens → all ≡ None
-  part_too_much h = rest_by _ (part_here text tokens from _ h refl)
-
-  -- no part more
-  pub point_read : length tokens < from → all ≡ Some read
-  point_read h = rest_by [] (past_end text tokens from h) ∙ ap (λ xs. Some xs) (plain read)
-    where
-      plain : (xs : List Number) → xs ++ [] ≡ xs
-      plain [] = refl
-      plain (x ∷ xs) = ap (λ ys. x ∷ ys) (plain xs)
-
 -- ---- tokens that need no text
 
-equals_by_kind : (text : List ℕ) (from to : ℕ) (kind : Tok) → is_equals (plain_of text (record { kind = kind; from = from; to = to })) ≡ is_equals (plain_of [] (record { kind = kind; from = from; to = to }))
-equals_by_kind text from to tok.Word = refl
-equals_by_kind text from to (tok.Number q) = refl
-equals_by_kind text from to (tok.Sign b) = refl
-equals_by_kind text from to (tok.TwoSign b c) = refl
-
--- `=` is told without the text
-equals_blind : (text : List ℕ) (token : Token) → is_equals (plain_of text token) ≡ is_equals (plain_of [] token)
-equals_blind text token = equals_by_kind text token.from token.to token.kind
-
-number_by_kind : (text : List ℕ) (from to : ℕ) (kind : Tok) → number_in (plain_of text (record { kind = kind; from = from; to = to })) ≡ number_in (plain_of [] (record { kind = kind; from = from; to = to }))
-number_by_kind text from to tok.Word = refl
-number_by_kind text from to (tok.Number q) = refl
-number_by_kind text from to (tok.Sign b) = refl
-number_by_kind text from to (tok.TwoSign b c) = refl
-
-number_blind : (text : List ℕ) (token : Token) → number_in (plain_of text token) ≡ number_in (plain_of [] token)
-number_blind text token = number_by_kind text token.from token.to token.kind
-
--- so is a number behind a minus or not
+-- a number behind a minus or not is told without the text
 signed_blind : (text : List ℕ) (tokens : List Token) → signed_number (map (plain_of text) tokens) ≡ signed_number (map (plain_of []) tokens)
 signed_blind text [] = refl
-signed_blind text (a ∷ []) = number_blind text a
-signed_blind text (a ∷ b ∷ []) = rw (minus_blind text a, number_blind text b) refl
+signed_blind text (a ∷ []) = without_text number_in (λ v w. refl) text a
+signed_blind text (a ∷ b ∷ []) = rw (without_text is_minus minus_blind text a, without_text number_in (λ v w. refl) text b) refl
 signed_blind text (a ∷ b ∷ c ∷ tokens) = refl
 
 -- tokens that begin with the name and `=` are a coordinate where the others are a number
@@ -137,5 +95,5 @@ coordinate_by name text [] first second h d e f g = absurd (omega arith)
 coordinate_by name text (a ∷ []) first second h d e f g = absurd (omega arith)
 coordinate_by name text (a ∷ b ∷ tokens) first second h d e f g =
     let word : is_word name (plain_of text a) ≡ true = ap (λ x. is_word name (plain_of text x)) (sym d) ∙ f in
-    let equals : is_equals (plain_of text b) ≡ true = equals_blind text b ∙ ap (λ x. is_equals (plain_of [] x)) (sym e) ∙ g in
+    let equals : is_equals (plain_of text b) ≡ true = without_text is_equals (λ v w. refl) text b ∙ ap (λ x. is_equals (plain_of [] x)) (sym e) ∙ g in
     rw (word, equals) (signed_blind text tokens ∙ ap (λ ts. signed_number (map (plain_of []) ts)) (sym (take_rest (a ∷ b ∷ tokens) 2)))

@@ -10,7 +10,7 @@ use Rattle.lhg_lex.specs.declared.stops.ReadStop.TheVariants.{Bad, Memory}
 use Rattle.lhg_lex.specs.declared.tokens.Line.{Line}
 use Rattle.lhg_read.specs.Rest.{AreBlank, IsSurplus, HasSurplus}
 use Rattle.lhg_read.specs.TokenText.{fault_in}
-use Rattle.lhg_read.proofs.TokenTexts.{has_tokens}
+use Rattle.lhg_read.specs.TokenLineLaws.{has_tokens}
 
 -- a line among blank lines is blank
 blank_at : (before : List (List ℕ)) (line : List ℕ) (behind : List (List ℕ)) → AreBlank (before ++ line ∷ behind) → IsBlankLine line

@@ -18,10 +18,10 @@ use Rattle.lhg_read.specs.PointText.{coordinate_of, coordinates_of, point_of}
 use Rattle.lhg_read.specs.Signs.{is_comma}
 use Rattle.lhg_read.specs.StateText.{location_in, state_line, IsSomeState}
 use Rattle.lhg_read.specs.TokenText.{token_line}
-use Rattle.lhg_read.proofs.PlantContinues.{on_by}
+use Rattle.lhg_read.specs.ReadsLaws.{on_by}
 use Rattle.lhg_read.proofs.SpelledLines.{Spelling, IsSpelling, spelled_line, spelled_tokens, word_spelling, equals_spelling, comma_spelling, zero_spelling}
 use Rattle.lhg_read.proofs.StateSteps.{state_is}
-use Rattle.lhg_read.proofs.TokenTexts.{CanGoOn}
+use Rattle.lhg_read.specs.Reads.{CanGoOn}
 
 abbrev spelling : List ℕ → PlainToken → Spelling
 spelling bytes token = record { bytes = bytes; token = token }

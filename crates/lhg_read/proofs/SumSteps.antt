@@ -5,7 +5,6 @@ use Rattle.std.proofs.lemmas.Bool.{cases_lt}
 use Rattle.lhg_lex.specs.PlainToken.{PlainToken}
 use Rattle.lhg_lex.specs.TextTokens.{plain_of}
 use Rattle.lhg_lex.specs.declared.tokens.Token.{Token}
-use Rattle.lhg_lex.specs.declared.tokens.Tok.{Tok}
 use Rattle.lhg_lex.specs.declared.tokens.Tok.TheVariants as tok
 use Rattle.lhg_read.specs.Cut.{Cut, cut}
 use Rattle.lhg_read.specs.Options.{consed}
@@ -15,30 +14,18 @@ use Rattle.lhg_read.specs.Sum.{signed, terms_from, begins_with_minus, sum_of}
 use Rattle.lhg_read.specs.Collect.{Collected, with_term, with_terms, with_turned}
 use Rattle.lhg_read.specs.declared.forms.Form.{Form}
 use Rattle.lhg_read.specs.declared.terms.Term.{Term}
-use Rattle.lhg_read.proofs.Cuts.{IsBlind, whole, behind, ahead, last_part, inner_part}
+use Rattle.lhg_read.proofs.Cuts.{IsBlind, without_text, whole, behind, ahead, last_part, inner_part}
 
 -- signs are told without the text
-by_kind : (text : List ℕ) (from to : ℕ) (kind : Tok) → is_plus_or_minus (plain_of text (record { kind = kind; from = from; to = to })) ≡ is_plus_or_minus (plain_of [] (record { kind = kind; from = from; to = to }))
-by_kind text from to tok.Word = refl
-by_kind text from to (tok.Number q) = refl
-by_kind text from to (tok.Sign b) = refl
-by_kind text from to (tok.TwoSign b c) = refl
-
-pub signs_blind : IsBlind is_plus_or_minus
-signs_blind text token = by_kind text token.from token.to token.kind
-
-minus_by_kind : (text : List ℕ) (from to : ℕ) (kind : Tok) → is_minus (plain_of text (record { kind = kind; from = from; to = to })) ≡ is_minus (plain_of [] (record { kind = kind; from = from; to = to }))
-minus_by_kind text from to tok.Word = refl
-minus_by_kind text from to (tok.Number q) = refl
-minus_by_kind text from to (tok.Sign b) = refl
-minus_by_kind text from to (tok.TwoSign b c) = refl
+signs_blind : IsBlind is_plus_or_minus
+signs_blind v w = refl
 
 pub minus_blind : IsBlind is_minus
-minus_blind text token = minus_by_kind text token.from token.to token.kind
+minus_blind v w = refl
 
-pub begins_blind : (text : List ℕ) (tokens : List Token) → begins_with_minus (map (plain_of text) tokens) ≡ begins_with_minus (map (plain_of []) tokens)
+begins_blind : (text : List ℕ) (tokens : List Token) → begins_with_minus (map (plain_of text) tokens) ≡ begins_with_minus (map (plain_of []) tokens)
 begins_blind text [] = refl
-begins_blind text (token ∷ tokens) = minus_blind text token
+begins_blind text (token ∷ tokens) = without_text is_minus minus_blind text token
 
 -- a term is put, where it is one
 abbrev pub term_put : Bool → Collected → Bool → Option Term → Option Collected
@@ -97,7 +84,7 @@ module _ (form : Form) (vars : List (List ℕ)) (text : List ℕ) (tokens : List
       let rest = cut is_plus_or_minus (map (plain_of text) (drop (at + n + 1) tokens)) in
       ap (λ k. with_turned turned c (terms_from form vars minus k)) (inner_part is_plus_or_minus signs_blind text tokens at n within is mark h)
       ∙ inner_term form vars turned c minus here (plain_of text (get_or tokens (at + n) mark)) rest
-      ∙ ap (λ b. option_and_then (λ d. with_turned turned d (terms_from form vars b rest)) (term_put turned c minus (term_of form vars here))) (ap (λ t. is_minus (plain_of text t)) (sym e) ∙ minus_blind text mark)
+      ∙ ap (λ b. option_and_then (λ d. with_turned turned d (terms_from form vars b rest)) (term_put turned c minus (term_of form vars here))) (ap (λ t. is_minus (plain_of text t)) (sym e) ∙ without_text is_minus minus_blind text mark)
 
   -- where the term cannot be put, there is no value
   pub refused : term_put turned c minus (term_of form vars here) ≡ None → now ≡ None

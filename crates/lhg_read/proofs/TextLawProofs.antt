@@ -15,7 +15,7 @@ use Rattle.lhg_read.proofs.PlantRefusals.{same_three}
 use Rattle.lhg_read.proofs.PlantTexts.{begun_of_plant}
 
 -- the tokens of lines are one list
-same_tokens : (Is Was : List (List Spot) → Type 0) (lines : List (List ℕ)) (t : IsTextBy Is lines) (u : IsTextBy Was lines) → t.tokens ≡ u.tokens
+pub same_tokens : (Is Was : List (List Spot) → Type 0) (lines : List (List ℕ)) (t : IsTextBy Is lines) (u : IsTextBy Was lines) → t.tokens ≡ u.tokens
 same_tokens Is Was lines t u = same_Some t.tokens u.tokens (sym t.are ∙ u.are)
 
 -- tokens are one plant at most

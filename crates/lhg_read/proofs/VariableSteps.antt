@@ -9,6 +9,7 @@ use Rattle.lhg_lex.specs.TextTokens.{plain_of}
 use Rattle.lhg_lex.specs.declared.tokens.Token.{Token}
 use Rattle.lhg_read.specs.Options.{consed}
 use Rattle.lhg_plant.specs.Differ.{is_among, differ_from, all_differ}
+use Rattle.lhg_plant.specs.Limits.{most_variables}
 use Rattle.lhg_read.specs.Names.{variable_name, variable_names, proper_variables}
 
 -- the variables of further tokens, behind those that are read
@@ -43,23 +44,19 @@ improper seen n None h = refl
 improper seen n (Some more) h = h more
 
 module _ (seen : List (List ℕ)) (t : PlainToken) (ts : List PlainToken) where
-  -- no name
-  pub not_named : None ≡ variable_name t → further seen (t ∷ ts) ≡ None
-  not_named e = ap (λ o. option_and_then (λ more. proper_variables (seen ++ more)) (consed o (variable_names ts))) (sym e)
-
   module _ (n : List ℕ) (e : Some n ≡ variable_name t) where
     here : further seen (t ∷ ts) ≡ option_and_then (λ more. proper_variables (seen ++ more)) (consed (Some n) (variable_names ts))
     here = ap (λ o. option_and_then (λ more. proper_variables (seen ++ more)) (consed o (variable_names ts))) (sym e)
 
     -- too many
-    pub one_too_many : length seen ≡ 6 → further seen (t ∷ ts) ≡ None
+    pub one_too_many : length seen ≡ most_variables → further seen (t ∷ ts) ≡ None
     one_too_many h = here ∙ improper seen n (variable_names ts) over
       where
         over : (more : List (List ℕ)) → proper_variables (seen ++ n ∷ more) ≡ None
         over more =
             let k = length-append seen (n ∷ more) in
-            let m : 6 < length (seen ++ n ∷ more) = omega (arith, k, h) in
-            let f : nat_le (length (seen ++ n ∷ more)) 6 ≡ false = grind (arith, nat_tests, m) in
+            let m : most_variables < length (seen ++ n ∷ more) = omega (arith, k, h) in
+            let f : nat_le (length (seen ++ n ∷ more)) most_variables ≡ false = grind (arith, nat_tests, m) in
             rw f (ap (λ b. cond b (Some (seen ++ n ∷ more)) None) (and-false (nat_le 1 (length (seen ++ n ∷ more)))))
 
     -- a name that is there already
@@ -69,15 +66,11 @@ module _ (seen : List (List ℕ)) (t : PlainToken) (ts : List PlainToken) where
         again : (more : List (List ℕ)) → proper_variables (seen ++ n ∷ more) ≡ None
         again more =
             let f = differ_not seen n more h in
-            rw f (ap (λ b. cond (nat_le 1 (length (seen ++ n ∷ more)) && b) (Some (seen ++ n ∷ more)) None) (and-false (nat_le (length (seen ++ n ∷ more)) 6)) ∙ ap (λ b. cond b (Some (seen ++ n ∷ more)) None) (and-false (nat_le 1 (length (seen ++ n ∷ more)))))
+            rw f (ap (λ b. cond (nat_le 1 (length (seen ++ n ∷ more)) && b) (Some (seen ++ n ∷ more)) None) (and-false (nat_le (length (seen ++ n ∷ more)) most_variables)) ∙ ap (λ b. cond b (Some (seen ++ n ∷ more)) None) (and-false (nat_le 1 (length (seen ++ n ∷ more)))))
 
     -- a variable more
     pub named : further seen (t ∷ ts) ≡ further (seen ++ n ∷ []) ts
     named = here ∙ consed_some n seen (variable_names ts)
-
-pub no_variables : (seen : List (List ℕ)) → length seen ≡ 0 → further seen [] ≡ None
-no_variables [] e = refl
-no_variables (x ∷ xs) e = absurd (omega arith)
 
 -- ---- the turns of the loop
 
@@ -96,10 +89,7 @@ module _ (text : List ℕ) (tokens : List Token) (i : ℕ) (t : Token) (h : i < 
   opened : now ≡ further seen (plain_of text t ∷ map (plain_of text) (drop (i + 1) tokens))
   opened = ap (further seen) (next_token text tokens i t h e)
 
-  pub not_named_now : None ≡ variable_name (plain_of text t) → now ≡ None
-  not_named_now k = opened ∙ not_named seen (plain_of text t) (map (plain_of text) (drop (i + 1) tokens)) k
-
-  pub too_many_now : (n : List ℕ) → Some n ≡ variable_name (plain_of text t) → length seen ≡ 6 → now ≡ None
+  pub too_many_now : (n : List ℕ) → Some n ≡ variable_name (plain_of text t) → length seen ≡ most_variables → now ≡ None
   too_many_now n k l = opened ∙ one_too_many seen (plain_of text t) (map (plain_of text) (drop (i + 1) tokens)) n k l
 
   pub before_now : (n : List ℕ) → Some n ≡ variable_name (plain_of text t) → is_among n seen ≡ true → now ≡ None

@@ -2,10 +2,14 @@ pub mod Begun
 pub mod Collect
 pub mod Cut
 pub mod DraftView
+pub mod FaultLaws
 pub mod HeadTest
 pub mod Keep
 pub mod Lexed
+pub mod Machine
+pub mod MachineLaws
 pub mod Names
+pub mod OptionLaws
 pub mod Options
 pub mod Pair
 pub mod PlantLine
@@ -13,6 +17,8 @@ pub mod PlantSteps
 pub mod PlantText
 pub mod PlantTextLaws
 pub mod PointText
+pub mod Reads
+pub mod ReadsLaws
 pub mod Refusals
 pub mod Rest
 pub mod Rows
@@ -21,4 +27,5 @@ pub mod StateText
 pub mod Sum
 pub mod Term
 pub mod TextLaws
+pub mod TokenLineLaws
 pub mod TokenText

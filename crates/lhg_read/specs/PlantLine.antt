@@ -4,7 +4,7 @@ use Rattle.std.specs.Option.{option_and_then, option_map}
 use Rattle.lhg_row.specs.Piece.{PlainPiece}
 use Rattle.lhg_lex.specs.PlainToken.{PlainToken}
 use Rattle.lhg_plant.specs.declared.plants.Side.{Side}
-use Rattle.lhg_plant.specs.declared.plants.Side.TheVariants.{Ctl, Env}
+use Rattle.lhg_plant.specs.declared.plants.Side.TheVariants.{Ctl, Env, Pick}
 use Rattle.lhg_read.specs.Names.{name_of, one_name}
 use Rattle.lhg_read.specs.Rows.{rows_of}
 use Rattle.lhg_read.specs.Signs.{is_word}
@@ -31,9 +31,12 @@ pub data PlantLine : Type 0 where
   switch : WrittenSwitch → PlantLine
   end : PlantLine
 
--- `ctl` or `env`
+-- `ctl`, `env` or `pick`
 abbrev pub side_of : PlainToken → Option Side
-side_of token = if is_word (codes "ctl") token then Some Ctl else (if is_word (codes "env") token then Some Env else None)
+side_of token =
+    if is_word (codes "ctl") token then Some Ctl else
+    (if is_word (codes "env") token then Some Env else
+    (if is_word (codes "pick") token then Some Pick else None))
 
 -- NAME SIDE FROM TO ROWS
 abbrev pub switch_of : List (List ℕ) → List PlainToken → Option WrittenSwitch

@@ -78,12 +78,16 @@ plant_lines blocks switches = flat_map block_lines blocks ++ (map (λ s. switch 
 abbrev pub said_in : List Spot → List PlainToken
 said_in line = map (λ spot. spot.says) line
 
--- `lhg 1`, where the number is that one digit
-pub record IsHead (line : List Spot) : Type 0 where
+-- the word and `1`, where the number is that one digit
+pub record IsHeadOf (w : List ℕ) (line : List Spot) : Type 0 where
   pub from : ℕ
   pub to : ℕ
   pub at : ℕ
-  pub is : line ≡ record { says = word (codes "lhg"); from = from; to = to } ∷ record { says = number unit; from = at; to = at + 1 } ∷ []
+  pub is : line ≡ record { says = word w; from = from; to = to } ∷ record { says = number unit; from = at; to = at + 1 } ∷ []
+
+-- `lhg 1`
+abbrev pub IsHead : List Spot → Type 0
+IsHead line = IsHeadOf (codes "lhg") line
 
 -- lines with these tokens are a plant: the head, the variables, the blocks, the switches and the end
 pub record IsPlant (lines : List (List Spot)) (p : PlainPlant) : Type 0 where

@@ -1,4 +1,4 @@
-// The head of a plant.
+// The head of a plant, or of another part of an input.
 ghost use Rattle.std.specs.Prelude.{◌≡◌, [], All};
 ghost use Rattle.lhg_lex.specs.TextTokens.{plain_of, IsSpan};
 ghost use Rattle.lhg_read.specs.HeadTest.{is_unit, head_test};
@@ -16,14 +16,14 @@ fn is_unit(token: &Token) -> bool
     }
 }
 
-/// Whether the tokens are `lhg 1`, where the number is that one digit.
-pub(crate) fn is_head(lines: &Lines, tokens: &[Token]) -> bool
+/// Whether the tokens are the word and `1`, where the number is that one digit.
+pub fn is_head(lines: &Lines, tokens: &[Token], word: &[u8]) -> bool
     requires { All (IsSpan lines.now.bytes) tokens.now }
-    ensures { result ≡ head_test lines.now.bytes tokens.now }
+    ensures { result ≡ head_test word.now lines.now.bytes tokens.now }
 {
     match tokens {
-        [word, number] => {
-            is_word(lines, word, b"lhg") && is_unit(number) && number.to - number.from == 1
+        [first, number] => {
+            is_word(lines, first, word) && is_unit(number) && number.to - number.from == 1
         }
         _ => false,
     }

@@ -28,8 +28,14 @@ mod tests;
 
 pub use axes::still_rows;
 pub use forms::Form;
+pub use heads::is_head;
+pub use names::read_name;
+pub use next_lines::needed_line;
 pub use plant::read_plant;
-pub use points::read_point;
+pub use points::{point_from, read_point};
+pub use refusal::{Refusal, stop_at};
 pub use rest::finish;
-pub use rows::read_rows;
-pub use states::read_state;
+pub use rows::{read_rows, rows_from};
+pub use signs::is_word;
+pub use states::{read_state, state_from};
+pub use switches::place_in;

@@ -14,7 +14,7 @@ use lhg_plant::{MOST_NAME_BYTES, MOST_VARIABLES, Name};
 use std::alloc::Global;
 
 /// The name that a token is.
-pub(crate) fn read_name(lines: &Lines, token: &Token) -> Option<Name>
+pub fn read_name(lines: &Lines, token: &Token) -> Option<Name>
     requires span { IsSpan lines.now.bytes token.now }
     requires word { IsLexed (plain_of lines.now.bytes token.now) }
     ensures { result ≡ plain.name_of (plain_of lines.now.bytes token.now) }

@@ -7,7 +7,7 @@ use lhg_lex::{Line, Lines, ReadStop, What};
 use std::alloc::Global;
 
 /// The next line that has a token. Where there is none, the line after the last one cannot stand.
-pub(crate) fn needed_line(alloc: Global, lines: &mut Lines) -> Result<Line, ReadStop>
+pub fn needed_line(alloc: Global, lines: &mut Lines) -> Result<Line, ReadStop>
     ensures line { IfOk result (IsTokenLine lines.old) }
     ensures read { IfOk result (λ line. lines.new ≡ record lines.old { read = line.number }) }
     ensures stop { IfErr result (IsNoLine lines.old) }

@@ -27,7 +27,7 @@ pub fn read_plant(alloc: Global, lines: &mut Lines) -> Result<Plant, ReadStop>
     ensures bytes { OnErr result (lines.new.bytes ≡ lines.old.bytes) }
 {
     let line = needed_line(alloc, lines)?;
-    if !is_head(lines, &line.tokens) {
+    if !is_head(lines, &line.tokens, b"lhg") {
         return Err(stop_at(Refusal::NotHere, line.number));
     }
     let line = needed_line(alloc, lines)?;

@@ -58,7 +58,7 @@ fn read_coordinate(lines: &Lines, name: &Name, tokens: &[Token]) -> Option<Frac>
 }
 
 /// The point that the tokens are: a number for each of the variables, in order.
-pub(crate) fn point_from(
+pub fn point_from(
     alloc: Global,
     lines: &Lines,
     vars: &[Name],

@@ -7,7 +7,7 @@ use std::alloc::{AllocError, AllocFailed};
 
 /// Why a part of a line is not read.
 #[derive(Clone, Copy, Debug, PartialEq, Eq)]
-pub(crate) enum Refusal {
+pub enum Refusal {
     /// It cannot stand there.
     NotHere,
     /// Memory is out.
@@ -37,7 +37,7 @@ impl<T: Drop> From<AllocFailed<T>> for Refusal {
 }
 
 /// The refusal of the line with this number.
-pub(crate) fn stop_at(refusal: Refusal, line: u32) -> ReadStop
+pub fn stop_at(refusal: Refusal, line: u32) -> ReadStop
     ensures { result ≡ stop_at refusal line }
 {
     match refusal {

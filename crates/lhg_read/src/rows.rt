@@ -28,7 +28,7 @@ fn is_still(lines: &Lines, form: Form, tokens: &[Token]) -> bool
 }
 
 /// The rows of tokens that are `all`, `still` or a list of constraints.
-pub(crate) fn rows_from(
+pub fn rows_from(
     alloc: Global,
     lines: &Lines,
     vars: &[Name],

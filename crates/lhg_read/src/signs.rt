@@ -37,7 +37,7 @@ pub(crate) fn is_plus_or_minus(token: &Token) -> bool
 }
 
 /// Whether the token is this word.
-pub(crate) fn is_word(lines: &Lines, token: &Token, word: &[u8]) -> bool
+pub fn is_word(lines: &Lines, token: &Token, word: &[u8]) -> bool
     requires order { token.now.from ≤ token.now.to }
     requires within { token.now.to ≤ length lines.now.bytes }
     ensures { result ≡ plain.is_word word.now (plain_of lines.now.bytes token.now) }

@@ -17,8 +17,8 @@ use lhg_lex::{Lines, ReadStop, Token};
 use lhg_plant::{Plant, State};
 use std::alloc::Global;
 
-// The state that the name of a location and the tokens of a point are.
-fn state_from(
+/// The state that the name of a location and the tokens of a point are.
+pub fn state_from(
     alloc: Global,
     lines: &Lines,
     plant: &Plant,

@@ -42,6 +42,8 @@ fn read_side(lines: &Lines, token: &Token) -> Option<Side>
         Some(Side::Ctl)
     } else if is_word(lines, token, b"env") {
         Some(Side::Env)
+    } else if is_word(lines, token, b"pick") {
+        Some(Side::Pick)
     } else {
         None
     }
@@ -84,7 +86,7 @@ pub(crate) fn read_written(
 }
 
 /// The place of the location with this name.
-pub(crate) fn place_in(locs: &[Location], name: &Name) -> Option<usize>
+pub fn place_in(locs: &[Location], name: &Name) -> Option<usize>
     ensures place { result ≡ position (λ l. bytes_eq l.name name.now) locs.now }
     ensures below { IfSome result (λ i. i < length locs.now) }
 {

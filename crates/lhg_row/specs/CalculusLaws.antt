@@ -1,11 +1,12 @@
 -- Which laws do the operations on rows and on lists of rows obey?
-use Rattle.std.specs.Prelude.{◌≡◌, ◌≢◌, ℕ, suc, ◌<◌, not, List, length, remove, All, AllPairs, ◌+◌}
+use Rattle.std.specs.Prelude.{◌≡◌, ◌≢◌, ℕ, suc, ◌<◌, not, List, ◌++◌, length, remove, All, AllPairs, ◌+◌}
 use Rattle.lhg_math.specs.Number.{Number}
 use Rattle.lhg_num.specs.Arithmetic.{Arithmetic, IsLawful}
 use Rattle.lhg_row.specs.Row.{PlainRow, PlainPoint, holds_at}
 use Rattle.lhg_row.specs.Piece.{PlainPiece, in_piece}
 use Rattle.lhg_row.specs.Values.{truth, shift}
 use Rattle.lhg_row.specs.Moves.{negated, moved, renamed, picked}
+use Rattle.lhg_row.specs.PutIn.{put_in, put_in_each}
 use Rattle.lhg_row.specs.Trim.{trim, IsTrimmed, IsSettledOrNothing}
 use Rattle.lhg_row.specs.Width.{AllWide, IsTidy}
 use Rattle.lhg_row.specs.Column.{coef_at}
@@ -23,6 +24,8 @@ pub record RowLaws : Type 0 where
       → holds_at (shift a r by m).value x ≡ holds_at r (moved x m by)
   pub rename : (places : List ℕ) (n : ℕ) (r : PlainRow) (x : PlainPoint) → length places ≡ length r.coefs → All (λ p. p < n) places → AllPairs (λ p q. p ≢ q) places
       → length x ≡ n → holds_at (renamed places n r) x ≡ holds_at r (picked places x)
+  pub put_in : (a : Arithmetic) (x : PlainPoint) (r : PlainRow) (y : PlainPoint) → holds_at (put_in a x r).value y ≡ holds_at r (x ++ y)
+  pub put_in_wide : (a : Arithmetic) (x : PlainPoint) (m n : ℕ) (rows : PlainPiece) → length x ≡ m → AllWide (m + n) rows → AllWide n (put_in_each a x rows).value
 
 -- trim keeps the points and the width, and leaves a tidy list that is its own trim; a list that is its own trim is 0 < 0 alone, or
 -- its rows are scaled, have a variable and are of different directions; and it stays its own trim without one of its rows

@@ -10,7 +10,7 @@ use Rattle.lhg_math.specs.NumberOrder.{lt-add, lt-neg}
 use Rattle.lhg_math.specs.Tests.{by_bool}
 use Rattle.lhg_num.specs.Arithmetic.{Arithmetic}
 use Rattle.lhg_row.specs.Row.{PlainRow, PlainPoint, row_value, value_at, holds_at}
-use Rattle.lhg_row.specs.Join.{sub_is}
+use Rattle.lhg_math.specs.NumberRing.{sub_is}
 use Rattle.lhg_row.specs.Values.{shift}
 use Rattle.lhg_row.specs.ValueLaws.{marked_value-value, value_onto}
 use Rattle.lhg_row.specs.Moves.{negated, moved, coef_for, renamed, picked}

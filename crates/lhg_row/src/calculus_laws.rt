@@ -1,10 +1,16 @@
 // What callers may rest on: the laws of the calculus of rows, and known rows.
 ghost use Rattle.lhg_row.specs.CalculusLaws.{RowLaws, TrimLaws, CombLaw, EliminateLaws, EmptyLaw};
+ghost use Rattle.lhg_row.specs.WidenedLaws.{WidenedLaws};
 ghost use Rattle.lhg_row.specs.Worked.{TrimRows, EliminateRows, EmptyRows, MarkRows};
 
-/// Where negated, shifted and renamed rows hold.
+/// Where negated, shifted and renamed rows hold, and rows with a point put in.
 pub fn law_rows()
     ensures { RowLaws }
+{}
+
+/// Where widened rows hold.
+pub fn law_widened()
+    ensures { WidenedLaws }
 {}
 
 /// Trimmed lists have the points of the lists that they come from, and are their own trims; what rows they have.

@@ -1,4 +1,4 @@
-// Rows and points, and what they mean: pieces, segments, flows, plays and check points.
+// Rows and points, pieces, and the calculus of rows.
 #![tactic(auto)]
 
 pub mod calculus_laws;
@@ -6,6 +6,7 @@ mod copies;
 mod forms;
 pub mod laws;
 pub mod piece_laws;
+mod putting;
 mod rows;
 pub mod scaling;
 mod systems;
@@ -13,10 +14,13 @@ mod systems;
 mod tests;
 mod trimming;
 mod values;
+mod widening;
 
 pub use copies::{append_rows, copy_row, copy_rows};
 pub use forms::{negate, relax, rename, whole_row};
+pub use putting::{put_in, put_in_each};
 pub use rows::{Kind, Point, Row};
 pub use systems::System;
 pub use trimming::{ROW_LIMIT, trim};
 pub use values::{all_hold, fits, holds, plus_product, shift, value_from};
+pub use widening::{append_widened, widen};

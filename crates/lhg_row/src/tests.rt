@@ -4,8 +4,8 @@ ghost use Rattle.lhg_row.specs.Width.{AllWide};
 
 use crate::scaling::{Sense, agree, agree_at, lead, lead_size, size, stricter, times};
 use crate::{
-    Kind, Point, ROW_LIMIT, Row, System, copy_rows, holds, negate, relax, rename, shift, trim,
-    whole_row,
+    Kind, Point, ROW_LIMIT, Row, System, copy_rows, holds, negate, put_in, put_in_each, relax,
+    rename, shift, trim, whole_row,
 };
 use lhg_num::{Frac, Halt, Wide};
 use std::alloc::Global;
@@ -86,6 +86,7 @@ fn operations(rt: HostRuntime) -> Result<(), Fail> {
     let by = Point {
         at: [Frac::from(2)].to_vec(rt.alloc())?,
     };
+    let both = whole_row(rt.alloc(), &[2, 3], Kind::Strict, 5)?;
     let cases = [
         (
             negate(rt.alloc(), &weak)?,
@@ -107,10 +108,19 @@ fn operations(rt: HostRuntime) -> Result<(), Fail> {
             rename(rt.alloc(), &weak, &[1], 2)?,
             (2, Some((1, 1)), Kind::Weak, (3, 1)),
         ),
+        (
+            put_in(rt.alloc(), &both, &by)?,
+            (1, Some((3, 1)), Kind::Strict, (1, 1)),
+        ),
     ];
     for (got, want) in cases {
         assert_eq!(rt; shown(&got), want);
     }
+    let put = put_in_each(rt.alloc(), &[both], &by)?;
+    assert_eq!(rt;
+        put.first().map(shown),
+        Some((1, Some((3, 1)), Kind::Strict, (1, 1)))
+    );
     Ok(())
 }
 

@@ -1,5 +1,5 @@
 -- From which side does a row bound a variable, and which of two bounds is the tighter?
-use Rattle.std.specs.Prelude.{ℕ, Bool, Option, option_map}
+use Rattle.std.specs.Prelude.{ℕ, Bool}
 use Rattle.std.specs.declared.cmp.Ordering.{Ordering}
 use Rattle.lhg_math.specs.Bounds.{Bound}
 use Rattle.lhg_row.specs.Row.{PlainRow}
@@ -7,7 +7,6 @@ use Rattle.lhg_row.specs.Column.{lower_at, upper_at}
 use Rattle.lhg_row.specs.Sample.{greater_of, lesser_of}
 use Rattle.lhg_sample.specs.declared.bounds.Side.{Side}
 use Rattle.lhg_sample.specs.declared.bounds.Side.TheVariants.{Lower, Upper}
-use Rattle.lhg_sample.specs.declared.bounds.Bound as held
 
 -- the row bounds variable j from this side
 abbrev pub bounds_from : Side → ℕ → PlainRow → Bool
@@ -18,11 +17,3 @@ bounds_from Upper = upper_at
 abbrev pub tighter_from : Side → Bound → Bound → Ordering → Bound
 tighter_from Lower = greater_of
 tighter_from Upper = lesser_of
-
--- a bound that the code holds
-abbrev pub plain_bound : held.Bound → Bound
-plain_bound b = record { at = b.at; strict = b.strict }
-
--- the same where there may be none
-abbrev pub plain_bounds : Option held.Bound → Option Bound
-plain_bounds o = option_map plain_bound o

@@ -10,13 +10,15 @@ ghost use Rattle.lhg_row.specs.Column.{coef_at};
 ghost use Rattle.lhg_row.specs.Width.{AllWide};
 ghost use Rattle.lhg_row.specs.PieceFacts.{IsPointOf};
 ghost use Rattle.lhg_row.specs.Sample as calculus;
-ghost use Rattle.lhg_sample.specs.Sides.{bounds_from, tighter_from, plain_bound, plain_bounds};
+ghost use Rattle.lhg_sample.specs.Sides.{bounds_from, tighter_from};
+ghost use Rattle.lhg_simplex.specs.BoundView.{plain_bound, plain_bounds};
 
-use crate::bounds::{Bound, Side, chosen, tighten};
+use crate::bounds::{Side, tighten};
 use lhg_elim::{eliminate, is_lower, is_upper};
 use lhg_num::{DivError, Frac, Halt, Scalar, Wide};
 use lhg_poly::Poly;
 use lhg_row::{Point, Row, System, value_from};
+use lhg_simplex::{Bound, chosen};
 use std::alloc::Global;
 
 /// The sample of the piece, which lies in it: a point with one number per variable.

@@ -114,29 +114,3 @@ fn samples_areas(rt: HostRuntime) -> Result<(), Fail> {
     assert_eq!(rt; sampled(rt.alloc(), &[])?, (Some((0, 1)), Some((0, 1))));
     Ok(())
 }
-
-// A row over x and y, which may be reached.
-fn wide_row(alloc: Global, x: i64, y: i64, bound: Frac) -> Result<Row<Frac>, Halt>
-    ensures { IfOk result (λ r. length r.coefs ≡ 2) }
-{
-    let coefs = [Frac::from(x), Frac::from(y)].to_vec(alloc)?;
-    Ok(Row {
-        coefs,
-        kind: Kind::Weak,
-        bound,
-    })
-}
-
-#[test]
-fn refuses_wide_numbers(rt: HostRuntime) -> Result<(), Fail> {
-    let far = Frac::new(i128::MAX, 1)?;
-    let mut rows = Vec::new(rt.alloc());
-    rows.push(wide_row(rt.alloc(), 1, 0, far)?)?;
-    rows.push(wide_row(rt.alloc(), -1, 0, far.neg())?)?;
-    rows.push(wide_row(rt.alloc(), -2, 1, Frac::from(0))?)?;
-    let Some(piece) = make(rt.alloc(), 2, rows)? else {
-        return Err("none".into());
-    };
-    assert_eq!(rt; sample(rt.alloc(), &piece).err(), Some(Halt::Wide));
-    Ok(())
-}

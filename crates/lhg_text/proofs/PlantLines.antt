@@ -13,7 +13,7 @@ use Rattle.lhg_row.specs.Width.{AllWide}
 use Rattle.lhg_plant.specs.Plant.{PlainLocation}
 use Rattle.lhg_plant.specs.Word.{IsName, IsVariable}
 use Rattle.lhg_plant.specs.declared.plants.Side.{Side}
-use Rattle.lhg_plant.specs.declared.plants.Side.TheVariants.{Ctl, Env}
+use Rattle.lhg_plant.specs.declared.plants.Side.TheVariants.{Ctl, Env, Pick}
 use Rattle.lhg_read.specs.Names.{name_of, is_taken, variable_names, vars_of}
 use Rattle.lhg_plant.specs.Differ.{all_differ}
 use Rattle.lhg_plant.specs.Limits.{most_name_bytes, most_variables}
@@ -25,63 +25,13 @@ use Rattle.lhg_read.specs.Rows.{rows_of}
 use Rattle.lhg_read.specs.Term.{width}
 use Rattle.lhg_read.specs.declared.forms.Form.{Form}
 use Rattle.lhg_read.specs.declared.forms.Form.TheVariants.{Plain, Flow, Jump}
-use Rattle.lhg_text.specs.PlantText.{spaced, side_text, safe_line, location_lines}
-use Rattle.lhg_text.specs.RowText.{rows_text, jump_names}
-use Rattle.lhg_text.specs.Short.{AllShort, IsShortLocation}
-use Rattle.lhg_text.proofs.LineText.{Says, says_end, says_space, says_token}
-use Rattle.lhg_text.proofs.Places.{axes_of, names_of, axes_names, axes_named, axes_placed}
-use Rattle.lhg_text.proofs.RowReads.{IsRowOf}
-use Rattle.lhg_text.proofs.RowTokens.{rows_tokens, rows_say}
-use Rattle.lhg_text.proofs.RowsRead.{rows_read}
-use Rattle.lhg_text.proofs.TokenKinds.{word_token}
-
--- ---- words
-
--- the bytes are a word
-pub record IsWord (w : List ℕ) : Type 0 where
-  pub word : is_word w ≡ true
-
--- words with one space between each two say themselves
-words_say : (ws : List (List ℕ)) (last : List ℕ) (tokens : List PlainToken) → AllOf IsWord ws → Says last tokens → Says (spaced (ws ++ last ∷ [])) (map (λ w. word w) ws ++ tokens)
-words_say [] last tokens h s = s
-words_say (w ∷ []) last tokens h s = says_token w (32 ∷ last) (word w) (word_token w (32 ∷ last) h.0.word refl) (says_space s)
-words_say (w ∷ v ∷ ws) last tokens h s =
-    let more = words_say (v ∷ ws) last tokens h.1 s in
-    says_token w (32 ∷ spaced (v ∷ (ws ++ last ∷ []))) (word w) (word_token w (32 ∷ spaced (v ∷ (ws ++ last ∷ []))) h.0.word refl) (says_space more)
-
--- one word says itself
-pub word_says : (w : List ℕ) → is_word w ≡ true → Says w (word w ∷ [])
-word_says w h = subst (λ bytes. Says bytes (word w ∷ [])) (append-nil w) (says_token w [] (word w) (word_token w [] h refl) says_end)
-
--- ---- rows
-
--- rows that a line may give, each with a coefficient that is not zero, with numbers within the limit
-pub record AreRows (form : Form) (vars : List (List ℕ)) (rows : PlainPiece) : Type 0 where
-  pub line : IsLine (width form vars) rows
-  pub vary : Every varies rows
-  pub short : AllShort rows
-
-each_row : (form : Form) (vars : List (List ℕ)) (rows : PlainPiece) → AllWide (width form vars) rows → Every varies rows → AllOf (IsRowOf form vars) rows
-each_row form vars [] wide vary = tt
-each_row form vars (r ∷ rs) wide vary = (record { wide = wide.0; some = vary.0 }, each_row form vars rs wide.1 vary.1)
-
--- the names of variables are words and differ
-pub record AreNames (vars : List (List ℕ)) : Type 0 where
-  pub names : AllOf IsName vars
-  pub differ : all_differ vars ≡ true
-
--- the rows say tokens that are read as these rows
-record AreRead (form : Form) (vars : List (List ℕ)) (rows : PlainPiece) : Type 0 where
-  tokens : List PlainToken
-  says : Says (rows_text (names_of form vars) rows) tokens
-  reads : rows_of form vars tokens ≡ Some rows
-
-rows_are_read : (form : Form) (vars : List (List ℕ)) (rows : PlainPiece) → AreNames vars → AreRows form vars rows → AreRead form vars rows
-rows_are_read form vars rows names h = record {
-  tokens = rows_tokens (axes_of form vars) rows;
-  says = subst (λ ws. Says (rows_text ws rows) (rows_tokens (axes_of form vars) rows)) (axes_names form vars) (rows_say (axes_of form vars) rows (axes_named form vars names.names) h.short);
-  reads = rows_read form vars (axes_of form vars) (axes_placed form vars names.differ) rows (each_row form vars rows h.line.wide h.vary) h.line.few;
-}
+use Rattle.lhg_row_text.specs.PrintedLine.{spaced}
+use Rattle.lhg_text.specs.PlantText.{side_text, safe_line, location_lines}
+use Rattle.lhg_row_text.specs.RowText.{rows_text, jump_names}
+use Rattle.lhg_row_text.specs.Short.{AllShort}
+use Rattle.lhg_text.specs.ShortPlant.{IsShortLocation}
+use Rattle.lhg_row_text.proofs.LineText.{Says}
+use Rattle.lhg_row_text.proofs.NamedRows.{IsWord, words_say, word_says, AreRows, AreNames, AreRead, rows_are_read, name_read}
 
 -- ---- lines
 
@@ -91,9 +41,6 @@ pub record IsLineOf (vars : List (List ℕ)) (line : List ℕ) (value : PlantLin
   pub others : List PlainToken
   pub says : Says line (first ∷ others)
   pub reads : line_of vars (first ∷ others) ≡ Some value
-
-name_read : (w : List ℕ) → IsName w → name_of (word w) ≡ Some w
-name_read w h = let f = h.fits in let e : nat_le (length w) most_name_bytes ≡ true = grind (arith, nat_tests) in rw e refl
 
 loc_line : (vars : List (List ℕ)) (name : List ℕ) → IsName name → IsLineOf vars (spaced (codes "loc" ∷ name ∷ [])) (loc name)
 unfolding line_of
@@ -142,10 +89,12 @@ end_line vars = record { first = word (codes "end"); others = []; says = word_sa
 side_word : (s : Side) → is_word (side_text s) ≡ true
 side_word Ctl = refl
 side_word Env = refl
+side_word Pick = refl
 
 side_read : (s : Side) → side_of (word (side_text s)) ≡ Some s
 side_read Ctl = refl
 side_read Env = refl
+side_read Pick = refl
 
 switch_read : (vars : List (List ℕ)) (w : WrittenSwitch) (tokens : List PlainToken) → IsName w.name → IsName w.from → IsName w.to → rows_of Jump vars tokens ≡ Some w.jump
     → switch_of vars (word w.name ∷ word (side_text w.side) ∷ word w.from ∷ word w.to ∷ tokens) ≡ Some w

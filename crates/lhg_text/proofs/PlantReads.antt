@@ -2,15 +2,11 @@
 use Rattle.std.proofs.Common.{◌≡◌, ◌<◌, ◌≤◌, ℕ, zero, suc, List, [], ◌∷◌, ◌++◌, length, take, drop, get_or, map, refl, sym, ap, ◌∙◌, subst, true, false, ◌==◌, Some, Ok, arith, codes, append_assoc}
 use Rattle.std.specs.Prelude.{slice_get}
 use Rattle.std.specs.List.{list_all, list_any, flat_map}
-use Rattle.std.proofs.lemmas.Bool.{and_parts}
-use Rattle.std.proofs.lemmas.Bool.Decides.{nat_tests}
 use Rattle.std.proofs.lemmas.List.{length-map, length-take-le, take-append-drop}
-use Rattle.std.proofs.Common.{drop-cons}
 use Rattle.lhg_math.specs.Tests.{AllOf, Every}
 use Rattle.lhg_lex.specs.Lines.{lines_of}
 use Rattle.lhg_lex.specs.LineTokens.{Spot, tokens_of}
 use Rattle.lhg_lex.specs.PlainToken.{PlainToken, word}
-use Rattle.lhg_lex.proofs.TextLawProofs.{text_laws}
 use Rattle.lhg_row.specs.Constant.{varies}
 use Rattle.lhg_row.specs.Piece.{PlainPiece}
 use Rattle.lhg_plant.specs.Plant.{PlainLocation, PlainSwitch, PlainPlant}
@@ -26,43 +22,17 @@ use Rattle.lhg_read.specs.PlantText as read
 use Rattle.lhg_read.specs.Term.{place_of}
 use Rattle.lhg_read.specs.TokenText.{token_line, token_lines}
 use Rattle.lhg_read.proofs.PlantContinues.{head_spots, head_tokens, head_is}
-use Rattle.lhg_text.specs.Short.{AllShort, IsShortLocation, IsShortPlant}
-use Rattle.lhg_text.specs.PlantText.{line, spaced, location_name, location_lines, switch_line, plant_lines, plant_text}
-use Rattle.lhg_text.proofs.LineText.{is_inner, Says, says_space, says_token, line_says}
-use Rattle.lhg_text.proofs.Places.{place_at, not_before}
-use Rattle.lhg_text.proofs.RowReads.{cons_eq}
-use Rattle.lhg_text.proofs.TokenKinds.{word_token}
-use Rattle.lhg_text.proofs.PlantLines.{IsWord, word_says, AreNames, AreLinesOf, lines-append, block_of, location_is, switch_is, end_line, vars_read}
-
--- ---- the lines of the text
-
--- a line of inner bytes alone
-record IsInner (bytes : List ℕ) : Type 0 where
-  inner : list_all is_inner bytes ≡ true
-
-no_feed : (bytes : List ℕ) → list_all is_inner bytes ≡ true → list_any (λ b. b == 10) bytes ≡ false
-no_feed [] h = refl
-no_feed (b ∷ bytes) h =
-    let p = and_parts (is_inner b) (list_all is_inner bytes) h in
-    let e : (b == 10) ≡ false = grind (arith, nat_tests) in
-    rw e (no_feed bytes p.1)
-
-lines_back : (lines : List (List ℕ)) → AllOf IsInner lines → lines_of (flat_map line lines) ≡ lines
-lines_back [] h = refl
-lines_back (l ∷ lines) h =
-    ap lines_of (append_assoc l (10 ∷ []) (flat_map line lines)) ∙ text_laws.fed l (flat_map line lines) (no_feed l h.0.inner) ∙ ap (λ ls. l ∷ ls) (lines_back lines h.1)
-
--- ---- the tokens of the lines
-
-spots_some : (spots : List Spot) (first : PlainToken) (others : List PlainToken) → said_in spots ≡ first ∷ others → token_line (Ok spots) ≡ Some (spots ∷ [])
-spots_some [] first others h = absurd cc
-spots_some (spot ∷ spots) first others h = refl
-
--- one line more
-token_lines-cons : (l : List ℕ) (lines : List (List ℕ)) (first : PlainToken) (others : List PlainToken) (more : List (List Spot)) (s : Says l (first ∷ others)) → token_lines lines ≡ Some more → token_lines (l ∷ lines) ≡ Some (s.spots 0 ∷ more)
-token_lines-cons l lines first others more s h =
-    let e : token_line (tokens_of l) ≡ Some (s.spots 0 ∷ []) = ap token_line (line_says s) ∙ spots_some (s.spots 0) first others (s.says 0) in
-    rw (e, h) refl
+use Rattle.lhg_row_text.specs.Short.{AllShort}
+use Rattle.lhg_text.specs.ShortPlant.{IsShortLocation, IsShortPlant}
+use Rattle.lhg_text.specs.PlantText.{location_lines, switch_line, plant_lines, plant_text}
+use Rattle.lhg_row_text.specs.PrintedLine.{line, spaced, location_name}
+use Rattle.lhg_row_text.proofs.LineText.{Says, says_space, says_token, line_says}
+use Rattle.lhg_row_text.proofs.LinesBack.{IsInner, lines_back, token_lines-cons}
+use Rattle.lhg_row_text.proofs.NamePlaces.{is_named, place_back}
+use Rattle.lhg_row_text.proofs.RowReads.{cons_eq}
+use Rattle.lhg_row_text.proofs.TokenKinds.{word_token}
+use Rattle.lhg_text.proofs.PlantLines.{AreLinesOf, lines-append, block_of, location_is, switch_is, end_line, vars_read}
+use Rattle.lhg_row_text.proofs.NamedRows.{IsWord, word_says, AreNames}
 
 -- the tokens of lines, and what they say
 record AreTokens (vars : List (List ℕ)) (lines : List (List ℕ)) (values : List PlantLine) : Type 0 where
@@ -95,29 +65,6 @@ locations_are vars (l ∷ locs) names h v s =
 -- a switch as it is written: its locations by their names
 abbrev written : List PlainLocation → PlainSwitch → WrittenSwitch
 written locs s = record { name = s.name; side = s.side; from = location_name (slice_get locs s.from); to = location_name (slice_get locs s.to); jump = s.jump }
-
--- a location is found by its name
-name_of_place : (locs : List PlainLocation) (i : ℕ) → i < length locs → location_name (slice_get locs i) ≡ get_or (map (λ l. l.name) locs) i []
-name_of_place [] i h = absurd (omega arith)
-name_of_place (l ∷ locs) zero h = refl
-name_of_place (l ∷ locs) (suc i) h = name_of_place locs i (omega arith)
-
-is_named : (n : ℕ) (locs : List PlainLocation) (i : ℕ) → i < length locs → AllOf (IsLocation n) locs → IsName (location_name (slice_get locs i))
-is_named n [] i h k = absurd (omega arith)
-is_named n (l ∷ locs) zero h k = k.0.name
-is_named n (l ∷ locs) (suc i) h k = is_named n locs i (omega arith) k.1
-
-place_of_name : (names : List (List ℕ)) (i : ℕ) → i < length names → all_differ names ≡ true → place_of (get_or names i []) names ≡ Some i
-place_of_name names i h differ =
-    let w = get_or names i [] in
-    let split : names ≡ take i names ++ (w ∷ drop (suc i) names) = sym (take-append-drop i names) ∙ ap (λ ns. take i names ++ ns) (drop-cons names i [] h) in
-    let none = not_before w (take i names) (drop (suc i) names) (ap all_differ (sym split) ∙ differ) in
-    ap (place_of w) split ∙ place_at w (take i names) (drop (suc i) names) none ∙ ap (λ (n : ℕ). Some n) (length-take-le i names (omega arith))
-
-place_back : (locs : List PlainLocation) (i : ℕ) → i < length locs → all_differ (map (λ l. l.name) locs) ≡ true → place_of (location_name (slice_get locs i)) (map (λ l. l.name) locs) ≡ Some i
-place_back locs i h differ =
-    let size = length-map locs (λ l. l.name) in
-    ap (λ w. place_of w (map (λ l. l.name) locs)) (name_of_place locs i h) ∙ place_of_name (map (λ l. l.name) locs) i (omega arith) differ
 
 switch_back : (n : ℕ) (locs : List PlainLocation) (s : PlainSwitch) → all_differ (map (λ l. l.name) locs) ≡ true → IsSwitch n (length locs) s → switch_at (map (λ l. l.name) locs) (written locs s) ≡ Some s
 switch_back n locs s differ h =

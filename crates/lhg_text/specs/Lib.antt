@@ -1,4 +1,5 @@
 pub mod PlantText
-pub mod RowText
-pub mod Short
-pub mod TextExamples
+pub mod ReportConditions
+pub mod ReportLaws
+pub mod ReportText
+pub mod ShortPlant

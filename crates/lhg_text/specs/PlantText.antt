@@ -3,27 +3,16 @@ use Rattle.std.specs.Prelude.{ℕ, List, [], ◌∷◌, ◌++◌, codes, map, Op
 use Rattle.std.specs.List.{flat_map, join_with_byte}
 use Rattle.lhg_row.specs.Piece.{PlainPiece}
 use Rattle.lhg_plant.specs.declared.plants.Side.{Side}
-use Rattle.lhg_plant.specs.declared.plants.Side.TheVariants.{Ctl, Env}
+use Rattle.lhg_plant.specs.declared.plants.Side.TheVariants.{Ctl, Env, Pick}
 use Rattle.lhg_plant.specs.Plant.{PlainLocation, PlainSwitch, PlainPlant}
-use Rattle.lhg_text.specs.RowText.{rows_text, jump_names}
-
--- the text and a line feed
-abbrev pub line : List ℕ → List ℕ
-line text = text ++ 10 ∷ []
-
--- words with one space between each two
-abbrev pub spaced : List (List ℕ) → List ℕ
-spaced words = join_with_byte 32 words
+use Rattle.lhg_row_text.specs.PrintedLine.{line, spaced, location_name}
+use Rattle.lhg_row_text.specs.RowText.{rows_text, jump_names}
 
 -- who takes a switch
 abbrev pub side_text : Side → List ℕ
 side_text Ctl = codes "ctl"
 side_text Env = codes "env"
-
--- the name of a location, where it is there
-abbrev pub location_name : Option PlainLocation → List ℕ
-location_name None = []
-location_name (Some l) = l.name
+side_text Pick = codes "pick"
 
 -- the line of one list of safe states
 abbrev pub safe_line : List (List ℕ) → PlainPiece → List ℕ

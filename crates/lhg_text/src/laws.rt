@@ -1,7 +1,7 @@
-// How texts look, on small examples.
-ghost use Rattle.lhg_text.specs.TextExamples.{RowExamples};
+// What the text of a report determines.
+ghost use Rattle.lhg_text.specs.ReportLaws.{ReportLaws};
 
-/// Rows and lists of rows as they are printed.
-pub fn law_texts()
-    ensures { RowExamples }
+/// For one plant, reports with equal bytes have the same number of rounds, pieces, guard pieces, and records as printed.
+pub fn law_reports()
+    ensures { ReportLaws }
 {}

@@ -1,13 +1,15 @@
-//! Plants as texts.
+//! Plants and reports as texts.
 #![tactic(auto)]
 
 pub mod laws;
-mod numbers;
+mod losses;
 mod plants;
-mod rows;
-mod terms;
+#[cfg(test)]
+mod report_tests;
+mod reports;
 #[cfg(test)]
 mod tests;
+mod words;
 
 pub use plants::print_plant;
-pub use rows::push_rows;
+pub use reports::print_report;

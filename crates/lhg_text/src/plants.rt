@@ -10,23 +10,18 @@ ghost use Rattle.lhg_plant.specs.Printable.{IsPrintable};
 ghost use Rattle.lhg_plant.specs.Proper.{IsLocation, IsSwitch};
 ghost use Rattle.lhg_plant.specs.Views.{plain_plant, plain_location, plain_switch};
 ghost use Rattle.lhg_read.specs.PlantText.{IsPlantText};
-ghost use Rattle.lhg_text.specs.PlantText.{line, spaced, side_text, location_name, safe_line, location_lines, switch_line, plant_text};
-ghost use Rattle.lhg_text.specs.RowText.{rows_text};
-ghost use Rattle.lhg_text.specs.Short.{AllShort, IsShortLocation, IsShortPlant};
+ghost use Rattle.lhg_text.specs.PlantText.{side_text, safe_line, location_lines, switch_line, plant_text};
+ghost use Rattle.lhg_row_text.specs.PrintedLine.{line, spaced, location_name};
+ghost use Rattle.lhg_row_text.specs.RowText.{rows_text};
+ghost use Rattle.lhg_row_text.specs.Short.{AllShort};
+ghost use Rattle.lhg_text.specs.ShortPlant.{IsShortLocation, IsShortPlant};
 
-use crate::rows::{push_jump_rows, push_rows};
+use crate::words::push_word;
 use lhg_num::{Frac, Halt};
 use lhg_plant::{Location, Name, Plant, Side, Switch};
 use lhg_row::Row;
+use lhg_row_text::{push_jump_rows, push_rows};
 use std::alloc::{AllocError, Global};
-
-// A space and a word.
-fn push_word(text: &mut Vec<u8>, word: &[u8]) -> Result<(), AllocError>
-    ensures { OnOk result (text.new.items ≡ text.old.items ++ 32 ∷ word.now) }
-{
-    text.extend_from_slice(b" ")?;
-    text.extend_from_slice(word)
-}
 
 // Names, each behind a space.
 fn push_names(text: &mut Vec<u8>, names: &[Name]) -> Result<(), AllocError>
@@ -109,6 +104,7 @@ fn side_name(side: Side) -> &'static [u8]
     match side {
         Side::Ctl => b"ctl",
         Side::Env => b"env",
+        Side::Pick => b"pick",
     }
 }
 

@@ -12,14 +12,14 @@ const PLAIN: &[u8] = b"lhg 1\nvars x\nloc only\ninv 0 <= x <= 8\nflow still\nsaf
 const PLAIN_PRINTED: &[u8] =
     b"lhg 1\nvars x\nloc only\ninv x >= 0, x <= 8\nflow x <= 0, x >= 0\nsafe x <= 8\nend\n";
 
-// Two variables, a location without safe states, a union of safe states, fractions, and both sides of a switch.
+// Two variables, a location without safe states, a union of safe states, fractions, and each side of a switch.
 const RICH: &[u8] =
     b"lhg 1\nvars x y\nloc a\nflow all\ninv 0 <= x & -1/2 < y\nloc b\nsafe all\nflow x' = 1.50, x - 2*y < 3\nsafe y == 2/4
-switch go env a b x' = 2*x - y, -3/4*y' < 1\nswitch stay ctl b b keep\nend";
+switch go env a b x' = 2*x - y, -3/4*y' < 1\nswitch stay ctl b b keep\nswitch back pick b a x' = 0\nend";
 
 const RICH_PRINTED: &[u8] =
     b"lhg 1\nvars x y\nloc a\ninv x >= 0, y > -1/2\nflow all\nloc b\ninv all\nflow x <= 3/2, x >= 3/2, x - 2*y < 3\nsafe all\nsafe y <= 1/2, y >= 1/2
-switch go env a b 2*x - y - x' >= 0, 2*x - y - x' <= 0, 3/4*y' > -1\nswitch stay ctl b b x - x' >= 0, x - x' <= 0, y - y' >= 0, y - y' <= 0\nend\n";
+switch go env a b 2*x - y - x' >= 0, 2*x - y - x' <= 0, 3/4*y' > -1\nswitch stay ctl b b x - x' >= 0, x - x' <= 0, y - y' >= 0, y - y' <= 0\nswitch back pick b a x' <= 0, x' >= 0\nend\n";
 
 const CASES: [(&[u8], &[u8]); 3] = [
     (PLAIN, PLAIN_PRINTED),

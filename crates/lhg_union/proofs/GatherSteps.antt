@@ -6,7 +6,7 @@ use Rattle.lhg_num.specs.Marked.{Marked, and_then, valued}
 use Rattle.lhg_num.specs.MarkedLaws.{IsPart, IsBuilt, part_part, and_then-part}
 use Rattle.lhg_row.specs.Piece.{PlainPiece}
 use Rattle.lhg_row.specs.Lists.{is_past_list, counted_pieces}
-use Rattle.lhg_union.proofs.LimitSteps.{past-append}
+use Rattle.lhg_row.specs.ListLimits.{past-more}
 
 module _ {A B : Type 0} (whole : Marked (List B)) (out : List B) (m : Marked A) (made : A → List B) (rest : Marked (List B)) (b : IsBuilt whole out (and_then m (λ y. valued (λ zs. made y ++ zs) rest))) where
   -- the marks of the next part are among those of the whole
@@ -34,7 +34,7 @@ module _ (whole : Marked (List PlainPiece)) (out : List PlainPiece) (rest : Mark
   counted-part = record {
     wide = λ h. false_true h;
     rows = λ h. false_true h;
-    pieces = λ h. or_right whole.pieces _ (ap is_past_list (sym b.same) ∙ past-append out rest.value h);
+    pieces = λ h. or_right whole.pieces _ (ap is_past_list (sym b.same) ∙ past-more out rest.value h);
   }
 
 -- the marks of what is joined are among those of the list that is counted

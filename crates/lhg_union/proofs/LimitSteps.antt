@@ -24,29 +24,15 @@ module _ (ps : List PlainSystem) (i : ℕ) (p : PlainSystem) (p_is : p ≡ get_o
   pub count-on : rows ≤ left → (left - rows) + row_count (lines_of ps) ≡ most + row_count (lines_of (drop (i + 1) ps))
   count-on h = let k = here in omega arith
 
--- the rows of two lists together
-pub row_count-append : (ps qs : List PlainPiece) → row_count (ps ++ qs) ≡ row_count ps + row_count qs
-row_count-append [] qs = omega arith
-row_count-append (p ∷ ps) qs = let k = row_count-append ps qs in omega arith
-
--- ---- lists past their limits
--- a list that is past its limits stays so with more pieces
-pub past-append : (ps qs : List PlainPiece) → is_past_list ps ≡ true → is_past_list (ps ++ qs) ≡ true
-past-append ps qs h =
-    by_bool (nat_lt piece_limit (length ps))
-    (λ e. let k = ltb-true piece_limit (length ps) e in or_left (nat_lt piece_limit (length (ps ++ qs))) _ (lt-ltb piece_limit (length (ps ++ qs)) (omega (arith, length-append ps qs))))
-    (λ e.
-    let t : nat_lt list_row_limit (row_count ps) ≡ true = rw e at h in
-    let k = ltb-true list_row_limit (row_count ps) t in
-    or_right (nat_lt piece_limit (length (ps ++ qs))) _ (lt-ltb list_row_limit (row_count (ps ++ qs)) (omega (arith, row_count-append ps qs))))
-
 -- ---- one piece more
+-- the rows of a list with one piece more
+rows-more : (ps : List PlainPiece) (p : PlainPiece) → row_count (ps ++ p ∷ []) ≡ row_count ps + length p
+rows-more [] p = omega arith
+rows-more (q ∷ ps) p = let k = rows-more ps p in omega arith
+
 module _ (ps : List PlainPiece) (p : PlainPiece) where
   longer : length (ps ++ p ∷ []) ≡ length ps + 1
   longer = omega (arith, length-append ps (p ∷ []))
-
-  more : row_count (ps ++ p ∷ []) ≡ row_count ps + length p
-  more = omega (arith, row_count-append ps (p ∷ []))
 
   -- there are as many pieces as there may be
   pub room-full : piece_limit ≤ length ps → false ≡ not (is_past_list (ps ++ p ∷ []))
@@ -54,7 +40,7 @@ module _ (ps : List PlainPiece) (p : PlainPiece) where
 
   -- the piece alone has too many rows
   pub room-long : list_row_limit < length p → false ≡ not (is_past_list (ps ++ p ∷ []))
-  room-long h = ap not (sym (or_right (nat_lt piece_limit (length (ps ++ p ∷ []))) _ (lt-ltb list_row_limit (row_count (ps ++ p ∷ [])) (omega (arith, more)))))
+  room-long h = ap not (sym (or_right (nat_lt piece_limit (length (ps ++ p ∷ []))) _ (lt-ltb list_row_limit (row_count (ps ++ p ∷ [])) (omega (arith, rows-more ps p)))))
 
   -- the rows that are left for the others decide
   pub room-left : length ps < piece_limit → length p ≤ list_row_limit → not (nat_lt (list_row_limit - length p) (row_count ps)) ≡ not (is_past_list (ps ++ p ∷ []))
@@ -63,11 +49,11 @@ module _ (ps : List PlainPiece) (p : PlainPiece) where
       by_bool (nat_lt (list_row_limit - length p) (row_count ps))
       (λ e.
       let i = ltb-true (list_row_limit - length p) (row_count ps) e in
-      let t : nat_lt list_row_limit (row_count (ps ++ p ∷ [])) ≡ true = lt-ltb list_row_limit (row_count (ps ++ p ∷ [])) (omega (arith, more)) in
+      let t : nat_lt list_row_limit (row_count (ps ++ p ∷ [])) ≡ true = lt-ltb list_row_limit (row_count (ps ++ p ∷ [])) (omega (arith, rows-more ps p)) in
       let past : is_past_list (ps ++ p ∷ []) ≡ true = rw (few, t) refl in
       ap not e ∙ ap not (sym past))
       (λ e.
       let i = ltb-false (list_row_limit - length p) (row_count ps) e in
-      let t : nat_lt list_row_limit (row_count (ps ++ p ∷ [])) ≡ false = le-ltb list_row_limit (row_count (ps ++ p ∷ [])) (omega (arith, more)) in
+      let t : nat_lt list_row_limit (row_count (ps ++ p ∷ [])) ≡ false = le-ltb list_row_limit (row_count (ps ++ p ∷ [])) (omega (arith, rows-more ps p)) in
       let past : is_past_list (ps ++ p ∷ []) ≡ false = rw (few, t) refl in
       ap not e ∙ ap not (sym past))

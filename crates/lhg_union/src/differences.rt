@@ -58,8 +58,8 @@ fn minus_one<N: Scalar>(alloc: Global, ps: Vec<Poly<N>>, q: &Poly<N>) -> Result<
     Ok(out)
 }
 
-// Copies of the pieces.
-fn copies<N: Scalar>(alloc: Global, ps: &[Poly<N>]) -> Result<Vec<Poly<N>>, Halt>
+/// Copies of the pieces. It halts for `Memory` alone.
+pub fn copies<N: Scalar>(alloc: Global, ps: &[Poly<N>]) -> Result<Vec<Poly<N>>, Halt>
     ensures copies { IsHaltedByMemory result (done ps.now) (λ v. v.items) }
     ensures polys { IfOk result (λ _. ArePolys N.arithmetic ps.now) }
 {

@@ -10,7 +10,7 @@ mod regions;
 mod tests;
 
 pub use cutting::push_some;
-pub use differences::{covered, minus};
+pub use differences::{copies, covered, minus};
 pub use intersections::meet_lists;
-pub use limits::{LIST_ROW_LIMIT, PIECE_LIMIT};
+pub use limits::{LIST_ROW_LIMIT, PIECE_LIMIT, gather, is_within};
 pub use regions::Region;

@@ -14,7 +14,7 @@ pub const PIECE_LIMIT: usize = 4096;
 pub const LIST_ROW_LIMIT: usize = 16384;
 
 /// Whether the list is within its limits.
-pub(crate) fn is_within<N: Scalar>(pieces: &[Poly<N>]) -> bool
+pub fn is_within<N: Scalar>(pieces: &[Poly<N>]) -> bool
     ensures { result ≡ not (calculus.is_past_list (lines_of pieces.now)) }
 {
     pieces.len() <= PIECE_LIMIT && has_rows_within(pieces, LIST_ROW_LIMIT)
@@ -35,7 +35,7 @@ pub(crate) fn has_room<N: Scalar>(pieces: &[Poly<N>], piece: &Poly<N>) -> bool
 }
 
 /// Puts more pieces at the end of the list. Where the list is then past its limits, `Pieces` is the answer.
-pub(crate) fn gather<N: Scalar>(out: &mut Vec<Poly<N>>, mut more: Vec<Poly<N>>) -> Result<(), Halt>
+pub fn gather<N: Scalar>(out: &mut Vec<Poly<N>>, mut more: Vec<Poly<N>>) -> Result<(), Halt>
     ensures limit { IsHaltedByPieces result (calculus.counted_pieces (lines_of (out.old.items ++ more.items))) (λ _. lines_of out.new.items) }
     ensures items { OnOk result (out.new.items ≡ out.old.items ++ more.items) }
 {

@@ -1,5 +1,6 @@
 use Rattle.lhg_plant.proofs.Words.{names}
 use Rattle.lhg_plant.proofs.Examples.{heater, level}
+use Rattle.lhg_plant.proofs.PickExamples.{lifted}
 use Rattle.lhg_plant.proofs.laws.law_example.Goals as goal
 
 pub returns-clause-words : goal.returns-clause-words
@@ -10,3 +11,6 @@ returns-clause-thermostat c = heater
 
 pub returns-clause-tank : goal.returns-clause-tank
 returns-clause-tank c = level
+
+pub returns-clause-lift : goal.returns-clause-lift
+returns-clause-lift c = lifted

@@ -1,4 +1,4 @@
-use Rattle.lhg_row.specs.Convex.{piece_between, piece_towards, piece_ends}
+use Rattle.lhg_motion.specs.Convex.{piece_between, piece_towards, piece_ends}
 use Rattle.lhg_poly.proofs.laws.law_closure.Goals as goal
 
 pub returns-clause-relaxed : goal.returns-clause-relaxed

@@ -1,11 +1,12 @@
 use Rattle.std.proofs.Common.{◌≡◌, ◌∷◌, [], ◌++◌, length, ◌∙◌, refl, sym, ap, arith, true, false, length-append}
 use Rattle.lhg_plant.specs.Differ.{all_differ, is_among}
+use Rattle.lhg_plant.specs.Limits.{most_variables}
 use Rattle.lhg_read.proofs.VariableSteps.{too_many_now, before_now, named_now, differ_more}
 use Rattle.lhg_read.proofs.names.read_variables.Goals as goal
 
 pub returns-then-len-eq-MOST_VARIABLES : goal.returns-then-len-eq-MOST_VARIABLES
 returns-then-len-eq-MOST_VARIABLES c =
-    let full : length c.loop-token.vars.items ≡ 6 = omega (arith, c.loop-token.vars.ok.0) in
+    let full : length c.loop-token.vars.items ≡ most_variables = omega (arith, c.loop-token.vars.ok.0) in
     c.loop-token.invariant.left
     ∙ too_many_now c.args.lines.now.bytes c.args.tokens.now c.loop-token.token-index c.token-item.result c.loop-token-test.true c.token-item.is c.loop-token.vars.items c.in-Some.name c.in-Some.ensures full
 

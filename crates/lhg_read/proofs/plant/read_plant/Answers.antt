@@ -6,7 +6,8 @@ use Rattle.lhg_plant.specs.Views.{plain_location}
 use Rattle.lhg_read.specs.DraftView.{plain_draft}
 use Rattle.lhg_read.specs.PlantSteps.{taken}
 use Rattle.lhg_read.specs.Refusals.{IsRefused}
-use Rattle.lhg_read.proofs.PlantReading.{nothing_comes, not_head, after_head, head_alone, not_vars, after_vars, few_locs, no_end_comes, not_taken, one_taken, plant_read, read_proper, read_printable, lexed_after}
+use Rattle.lhg_read.proofs.LexedLines.{lexed_after}
+use Rattle.lhg_read.proofs.PlantReading.{nothing_comes, not_head, after_head, head_alone, not_vars, after_vars, few_locs, no_end_comes, not_taken, one_taken, plant_read, read_proper, read_printable}
 use Rattle.lhg_read.proofs.plant.read_plant.Goals as goal
 
 pub returns-in_err-line-clause-err : goal.returns-in_err-line-clause-err

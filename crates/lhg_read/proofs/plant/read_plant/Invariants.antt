@@ -3,7 +3,7 @@ use Rattle.lhg_lex.specs.LineTokens.{Spot}
 use Rattle.lhg_lex.specs.Reading.{left_of}
 use Rattle.lhg_read.specs.Begun.{IsBegun}
 use Rattle.lhg_read.specs.DraftView.{plain_draft}
-use Rattle.lhg_read.proofs.TokenTexts.{Reads}
+use Rattle.lhg_read.specs.Reads.{Reads}
 use Rattle.lhg_read.proofs.plant.read_plant.Given as goal
 
 abbrev pub invariant-loop-draft : goal.invariant-loop-draft

@@ -1,6 +1,6 @@
 use Rattle.std.proofs.lemmas.Result.{err_from_is_err_and}
 use Rattle.lhg_plant.specs.Views.{plain_plant, plain_state}
-use Rattle.lhg_read.proofs.PlantReading.{lexed_after}
+use Rattle.lhg_read.proofs.LexedLines.{lexed_after}
 use Rattle.lhg_read.proofs.StateLines.{some_state}
 use Rattle.lhg_read.proofs.StateReading.{no_line, not_state, state_read}
 use Rattle.lhg_read.proofs.states.read_state.Goals as goal

@@ -1,5 +1,6 @@
 use Rattle.lhg_row.specs.Sample.{tightened, tightest}
-use Rattle.lhg_sample.specs.Sides.{bounds_from, tighter_from, plain_bounds}
+use Rattle.lhg_sample.specs.Sides.{bounds_from, tighter_from}
+use Rattle.lhg_simplex.specs.BoundView.{plain_bounds}
 use Rattle.lhg_sample.proofs.PointSteps.{walked-step}
 use Rattle.lhg_sample.proofs.points.tightest.Goals as goal
 

@@ -1,7 +1,8 @@
 use Rattle.std.proofs.Common.{drop}
 use Rattle.lhg_num.specs.Marked.{walk, IsRest}
 use Rattle.lhg_row.specs.Sample.{tightened, tightest}
-use Rattle.lhg_sample.specs.Sides.{bounds_from, tighter_from, plain_bounds}
+use Rattle.lhg_sample.specs.Sides.{bounds_from, tighter_from}
+use Rattle.lhg_simplex.specs.BoundView.{plain_bounds}
 use Rattle.lhg_sample.proofs.points.tightest.Given as goal
 
 abbrev pub invariant-loop-row : goal.invariant-loop-row

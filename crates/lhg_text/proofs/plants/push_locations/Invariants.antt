@@ -2,8 +2,9 @@ use Rattle.std.proofs.Common.{◌≡◌, ◌++◌, drop, map}
 use Rattle.std.specs.List.{flat_map}
 use Rattle.lhg_math.specs.Tests.{AllOf}
 use Rattle.lhg_plant.specs.Views.{plain_location}
-use Rattle.lhg_text.specs.PlantText.{line, location_lines}
-use Rattle.lhg_text.specs.Short.{IsShortLocation}
+use Rattle.lhg_text.specs.PlantText.{location_lines}
+use Rattle.lhg_row_text.specs.PrintedLine.{line}
+use Rattle.lhg_text.specs.ShortPlant.{IsShortLocation}
 use Rattle.lhg_text.proofs.plants.push_locations.Given as goal
 
 abbrev pub invariant-loop-i : goal.invariant-loop-i

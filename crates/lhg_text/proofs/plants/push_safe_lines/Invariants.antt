@@ -1,8 +1,9 @@
 use Rattle.std.proofs.Common.{◌≡◌, ◌++◌, drop, map}
 use Rattle.std.specs.List.{flat_map}
 use Rattle.lhg_math.specs.Tests.{AllOf}
-use Rattle.lhg_text.specs.PlantText.{line, safe_line}
-use Rattle.lhg_text.specs.Short.{AllShort}
+use Rattle.lhg_text.specs.PlantText.{safe_line}
+use Rattle.lhg_row_text.specs.PrintedLine.{line}
+use Rattle.lhg_row_text.specs.Short.{AllShort}
 use Rattle.lhg_text.proofs.plants.push_safe_lines.Given as goal
 
 abbrev pub invariant-loop-i : goal.invariant-loop-i

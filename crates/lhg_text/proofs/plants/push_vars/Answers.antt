@@ -1,6 +1,6 @@
 use Rattle.std.proofs.Common.{rules, append_assoc, codes}
 use Rattle.std.proofs.lemmas.Result.{IfOk-equal}
-use Rattle.lhg_text.proofs.PlantTexts.{spaced-flat}
+use Rattle.lhg_text.proofs.SpacedWords.{spaced-flat}
 use Rattle.lhg_text.proofs.plants.push_vars.Goals as goal
 
 pub returns : goal.returns

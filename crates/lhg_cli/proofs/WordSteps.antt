@@ -1,0 +1,57 @@
+-- Words ask for one budget, and which it may be.
+use Rattle.std.proofs.Common.{◌≡◌, ◌<◌, ◌≤◌, ◌^◌, ℕ, List, [], ◌∷◌, length, map, get_or, Option, Some, None, IfSome, Result, Ok, Err, inl, inr, ap, sym, ◌∙◌, arith}
+use Rattle.std.specs.Prelude.{decimal}
+use Rattle.std.specs.Str.Parse.{digits_value, ParsesUnsigned}
+use Rattle.std.proofs.lemmas.Fmt.{decimal_is_IsNumeral, parse-decimal}
+use Rattle.lhg_cli.specs.Words.{AsksSynth, most_rounds}
+
+-- the second word, where there is one
+abbrev second : List (List ℕ) → List ℕ
+second [] = []
+second (w ∷ []) = []
+second (w ∷ v ∷ ws) = v
+
+-- a number is read back from its decimal
+same_number : (m n : ℕ) → m < 2 ^ 64 → n < 2 ^ 64 → decimal m ≡ decimal n → m ≡ n
+same_number m n k l e = sym (decimal_is_IsNumeral m k).1 ∙ ap (λ ds. digits_value 10 ds) e ∙ (decimal_is_IsNumeral n l).1
+
+-- one word is not two
+one_not_two : (u v w : List ℕ) → u ∷ [] ≡ v ∷ w ∷ [] → ⊥
+one_not_two u v w e = cc
+
+pub one_budget : (words : List (List ℕ)) (m n : ℕ) → AsksSynth words m → AsksSynth words n → m ≡ n
+one_budget words m n (inl h) (inl k) = h.1 ∙ sym k.1
+one_budget words m n (inl h) (inr k) = absurd (one_not_two _ _ _ (sym h.0 ∙ k.0))
+one_budget words m n (inr h) (inl k) = absurd (one_not_two _ _ _ (sym k.0 ∙ h.0))
+one_budget words m n (inr h) (inr k) = let p = h.2 in let q = k.2 in same_number m n (omega (arith, p)) (omega (arith, q)) (ap second (sym h.0 ∙ k.0))
+
+-- ---- a word that is read as a number
+-- the number of an answer, where it is one
+abbrev ok_number : {E : Type 0} → Result ℕ E → ℕ
+ok_number (Ok n) = n
+ok_number (Err e) = 0
+
+-- the number that is read of a budget in decimal is that budget
+pub read_same : {E : Type 0} (m n : ℕ) (bytes : List ℕ) (r : Result ℕ E) → m ≤ most_rounds → bytes ≡ decimal m → ParsesUnsigned 32 10 bytes r → r ≡ Ok n → m ≡ n
+read_same m n bytes r high e parses is = ap ok_number (sym (parse-decimal 32 m bytes r (omega (arith, high)) (omega (arith, high)) e parses) ∙ is)
+
+-- and there is one
+pub read_some : {E : Type 0} (m : ℕ) (bytes : List ℕ) (r : Result ℕ E) → m ≤ most_rounds → bytes ≡ decimal m → ParsesUnsigned 32 10 bytes r → r ≡ Ok m
+read_some m bytes r high e parses = parse-decimal 32 m bytes r (omega (arith, high)) (omega (arith, high)) e parses
+
+-- ---- lists of one and of two words
+pub one_word : {X : Type 0} (f : X → List ℕ) (ws : List X) (w : X) → length ws ≡ 1 → w ≡ get_or ws 0 w → map f ws ≡ f w ∷ []
+one_word f [] w n e = absurd (omega (arith, n))
+one_word f (x ∷ []) w n e = ap (λ z. f z ∷ []) (sym e)
+one_word f (x ∷ y ∷ ws) w n e = absurd (omega (arith, n))
+
+pub two_words : {X : Type 0} (f : X → List ℕ) (ws : List X) (v w : X) → length ws ≡ 2 → v ≡ get_or ws 0 v → w ≡ get_or ws 1 w → map f ws ≡ f v ∷ f w ∷ []
+two_words f [] v w n e k = absurd (omega (arith, n))
+two_words f (x ∷ []) v w n e k = absurd (omega (arith, n))
+two_words f (x ∷ y ∷ []) v w n e k = ap (λ z. f z ∷ f y ∷ []) (sym e) ∙ ap (λ z. f v ∷ f z ∷ []) (sym k)
+two_words f (x ∷ y ∷ z ∷ ws) v w n e k = absurd (omega (arith, n))
+
+-- what follows of the value where there is one
+pub some_by : {A : Type 0} (P Q : A → Type 0) (o : Option A) → ((x : A) → P x → Q x) → IfSome o P → IfSome o Q
+some_by P Q None f h = tt
+some_by P Q (Some x) f h = f x h

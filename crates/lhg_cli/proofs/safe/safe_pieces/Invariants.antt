@@ -1,7 +1,0 @@
-use Rattle.lhg_num.specs.FracArithmetic.{frac_arithmetic}
-use Rattle.lhg_union.proofs.MeetSteps.{IsMeeting}
-use Rattle.lhg_cli.proofs.SafeSteps.{rows_in}
-use Rattle.lhg_cli.proofs.safe.safe_pieces.Given as goal
-
-abbrev pub invariant-loop-line : goal.invariant-loop-line
-invariant-loop-line l = IsMeeting frac_arithmetic l.vars l.location.inv.items rows_in l.line-items l.pieces.items l.line-index

@@ -1,0 +1,19 @@
+use Rattle.std.proofs.Common.{arith, sym, subst}
+use Rattle.lhg_plant.specs.SafeRegion.{safe_region}
+use Rattle.lhg_plant.specs.Views.{plain_plant}
+use Rattle.lhg_union.specs.Regions.{plain_region}
+use Rattle.lhg_iterate.specs.Outcomes.{IsStoppedBy}
+use Rattle.lhg_iterate.proofs.Halting.{stop_in_rows}
+use Rattle.lhg_iterate.proofs.StageSteps.{begins}
+use Rattle.lhg_iterate.proofs.stages.first_stage.Goals as goal
+
+pub returns-in-Ok-clause-ok : goal.returns-in-Ok-clause-ok
+returns-in-Ok-clause-ok c =
+    let a = plain_plant c.args.plant.now in
+    begins c.args.plant.now c.args.budget _ (c.law_stages.ensures a) (c.law_work.ensures.steps a) c.new.ensures.items c.in-Ok.ensures.calculus c.in-Ok.ensures.region.has_lists.many c.in-Ok.ensures.region.has_lists.vars
+
+pub returns-in-Err-clause-stop : goal.returns-in-Err-clause-stop
+returns-in-Err-clause-stop c =
+    let a = plain_plant c.args.plant.now in
+    subst (IsStoppedBy a c.args.budget) (sym c.halted.ensures)
+    (stop_in_rows a c.args.budget 0 c.in-Err.halt (safe_region a) (λ r. plain_region r.pieces.items) (omega arith) (c.law_work.ensures.steps a).computed_first.0 (c.law_work.ensures.marks a c.args.budget 0).safe c.in-Err.ensures.calculus)

@@ -1,0 +1,35 @@
+use Rattle.std.proofs.Common.{◌≡◌, ◌+◌, suc, length, arith, sym, ap, subst, rules}
+use Rattle.lhg_plant.specs.Views.{plain_plant}
+use Rattle.lhg_union.specs.Regions.{plain_region}
+use Rattle.lhg_loss.specs.Records.{one_round}
+use Rattle.lhg_iterate.specs.Outcomes.{IsStoppedBy, stop_of}
+use Rattle.lhg_iterate.specs.RoundViews.{plain_round}
+use Rattle.lhg_iterate.proofs.Halting.{stop_in}
+use Rattle.lhg_iterate.proofs.StageSteps.{round-part, round-after}
+use Rattle.lhg_iterate.proofs.stages.next_round.Goals as goal
+
+pub round-requires-clause-region : goal.round-requires-clause-region
+round-requires-clause-region c = record { has_lists = record { many = c.requires.stage.many; vars = c.requires.stage.vars }; inside = c.requires.stage.stage_is.region_is.inside }
+
+pub returns-in-Ok-clause-ok : goal.returns-in-Ok-clause-ok
+returns-in-Ok-clause-ok c =
+    let s = c.args.stage.now in
+    let i = c.args.rounds in
+    let first = c.len.result + 1 in
+    let many : c.len.result ≡ length s.losses.items = search rules in
+    let first_is = ap (λ k. k + 1) many in
+    let number_is : i + 1 ≡ suc i = omega arith in
+    round-after c.args.plant.now c.args.budget i s (i + 1) first number_is first_is c.in-Ok.round c.in-Ok.ensures.calculus c.in-Ok.ensures.exact c.in-Ok.ensures.many c.in-Ok.ensures.vars c.in-Ok.ensures.losses_vars c.in-Ok.ensures.few
+
+pub returns-in-Err-clause-stop : goal.returns-in-Err-clause-stop
+returns-in-Err-clause-stop c =
+    let a = plain_plant c.args.plant.now in
+    let s = c.args.stage.now in
+    let i = c.args.rounds in
+    let first = c.len.result + 1 in
+    let many : c.len.result ≡ length s.losses.items = search rules in
+    let first_is = ap (λ k. k + 1) many in
+    let number_is : i + 1 ≡ suc i = omega arith in
+    let at : IsStoppedBy a c.args.budget (stop_of c.in-Err.halt (suc i)) = stop_in a c.args.budget (suc i) c.in-Err.halt (one_round a (plain_region s.region.pieces.items) (i + 1) first) plain_round (omega arith) c.requires.stage.computed
+    (round-part c.args.plant.now c.args.budget i s (i + 1) first number_is first_is (c.law_work.ensures.marks a c.args.budget i) c.requires.stage) c.in-Err.ensures.calculus in
+    subst (IsStoppedBy a c.args.budget) (sym c.halted.ensures) (subst (λ k. IsStoppedBy a c.args.budget (stop_of c.in-Err.halt k)) (sym number_is) at)

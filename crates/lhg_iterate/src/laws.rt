@@ -1,0 +1,23 @@
+// What callers may rest on: no secure set holds more than the region that is solved.
+ghost use Rattle.std.specs.Prelude.{◌≤◌, ℕ};
+ghost use Rattle.lhg_plant.specs.Escape.{IsSecure};
+ghost use Rattle.lhg_plant.specs.Region.{InRegion};
+ghost use Rattle.lhg_plant.specs.State.{PlainState};
+ghost use Rattle.lhg_plant.specs.Views.{plain_plant};
+ghost use Rattle.lhg_union.specs.Regions.{plain_region};
+ghost use Rattle.lhg_iterate.specs.Outcomes.{IsSolvedBy};
+
+use crate::solving::Solved;
+use lhg_loss::laws::law_largest as law_region_largest;
+use lhg_plant::{Plant, StateSet};
+
+/// The region that solves a game holds every state of a secure set, given in any way, with numbers of any size.
+pub fn law_largest<T: StateSet>(plant: &Plant, solved: &Solved, set: &T)
+    requires solved { (budget : ℕ) × IsSolvedBy (plain_plant plant.now) budget solved.now }
+    requires secure { IsSecure (plain_plant plant.now) (T.belongs set.now (plain_plant plant.now)) }
+    ensures { (s : PlainState) → T.belongs set.now (plain_plant plant.now) s → InRegion (plain_plant plant.now) (plain_region solved.now.region.pieces.items) s }
+{
+    law_region_largest(set);
+    let _ = plant;
+    let _ = solved;
+}

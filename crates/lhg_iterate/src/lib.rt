@@ -1,0 +1,22 @@
+// The rounds of the game, one after the other, until one removes nothing.
+#![tactic(auto)]
+
+mod causes;
+mod computing;
+pub mod laws;
+mod limits;
+mod near;
+mod places;
+mod records;
+mod rounds;
+mod solving;
+mod stages;
+mod stops;
+mod telling;
+
+pub use computing::round;
+pub use laws::law_largest;
+pub use limits::{RECORD_LIMIT, RECORD_ROW_LIMIT};
+pub use rounds::Round;
+pub use solving::{Solved, solve};
+pub use stops::Stop;

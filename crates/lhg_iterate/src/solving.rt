@@ -1,0 +1,106 @@
+// The iteration: rounds one after the other, until one removes nothing or the budget is spent.
+ghost use Rattle.std.specs.Prelude.{◌≡◌, ◌<◌, ◌≤◌, length, IfOk, IfErr};
+ghost use Rattle.lhg_math.specs.Tests.{AllOf};
+ghost use Rattle.lhg_union.specs.PolyLists.{AllVars};
+ghost use Rattle.lhg_plant.specs.Views.{plain_plant};
+ghost use Rattle.lhg_loss.specs.Iterate as calculus;
+ghost use Rattle.lhg_loss.specs.Views.{AllHaveVars};
+ghost use Rattle.lhg_iterate.specs.Outcomes.{plain_solved, IsSolvedBy, IsStoppedBy};
+ghost use Rattle.lhg_iterate.specs.Stages.{IsAfter, IsRoundAfter};
+
+use crate::rounds::Round;
+use crate::stages::{Stage, after_round, first_stage, next_round};
+use crate::stops::{Stop, halted};
+use lhg_jump::guards;
+use lhg_loss::Loss;
+use lhg_loss::laws::{law_stages, law_work};
+use lhg_num::Frac;
+use lhg_plant::{Plant, State};
+use lhg_poly::Poly;
+use lhg_sample::sample;
+use lhg_union::Region;
+use std::alloc::Global;
+
+/// What solves a game: the region, the guards of its switches, how many rounds there were, the last of which removed nothing, and the records of all of them.
+#[derive(Drop)]
+pub struct Solved {
+    pub region: Region<Frac>,
+    pub guards: Vec<Vec<Poly<Frac>>>,
+    pub rounds: u32,
+    pub losses: Vec<Loss>,
+}
+
+/// The first round that removes nothing, where it is at most the budget: its region, which holds exactly the states of all secure regions and is itself
+/// secure, the guards that keep it, and sound records of what was removed. `Spent` comes exactly where each round up to the budget removes a state. A limit comes
+/// only where the calculus passes it in the work of the round that is named.
+pub fn solve(alloc: Global, plant: &Plant, budget: u32) -> Result<Solved, Stop>
+    requires low { 1 ≤ budget }
+    requires high { budget ≤ 1000 }
+    ensures solution { IfOk result (λ s. calculus.solution (plain_plant plant.now) budget ≡ plain_solved s) }
+    ensures solved { IfOk result (IsSolvedBy (plain_plant plant.now) budget) }
+    ensures stop { IfErr result (IsStoppedBy (plain_plant plant.now) budget) }
+    ensures many { IfOk result (λ s. length s.region.pieces.items ≡ length plant.now.locs.items) }
+    ensures guards_many { IfOk result (λ s. length s.guards.items ≡ length plant.now.switches.items) }
+    ensures vars { IfOk result (λ s. AllOf (λ ps. AllVars (length plant.now.vars.items) ps.items) s.region.pieces.items) }
+    ensures guards_vars { IfOk result (λ s. AllOf (λ ps. AllVars (length plant.now.vars.items) ps.items) s.guards.items) }
+    ensures losses_vars { IfOk result (λ s. AllHaveVars (length plant.now.vars.items) s.losses.items) }
+{
+    let mut stage = first_stage(alloc, plant, budget)?;
+    for rounds in 0..budget {
+        let round = next_round(alloc, plant, budget, rounds, &stage)?;
+        if round.losses.is_empty() {
+            return settled(alloc, plant, budget, rounds, stage, round);
+        }
+        stage = after_round(plant, budget, rounds, stage, round)?;
+    }
+    Err(spent(alloc, plant, budget, &stage))
+}
+
+// What solves the game after a round that removed nothing.
+fn settled(
+    alloc: Global,
+    plant: &Plant,
+    budget: u32,
+    rounds: u32,
+    stage: Stage,
+    round: Round,
+) -> Result<Solved, Stop>
+    requires within { rounds < budget }
+    requires stage { IsAfter plant.now budget rounds stage }
+    requires round { IsRoundAfter plant.now rounds stage round }
+    requires none { length round.losses.items ≡ 0 }
+    ensures solution { IfOk result (λ s. calculus.solution (plain_plant plant.now) budget ≡ plain_solved s) }
+    ensures solved { IfOk result (IsSolvedBy (plain_plant plant.now) budget) }
+    ensures stop { IfErr result (IsStoppedBy (plain_plant plant.now) budget) }
+    ensures many { IfOk result (λ s. length s.region.pieces.items ≡ length plant.now.locs.items) }
+    ensures guards_many { IfOk result (λ s. length s.guards.items ≡ length plant.now.switches.items) }
+    ensures vars { IfOk result (λ s. AllOf (λ ps. AllVars (length plant.now.vars.items) ps.items) s.region.pieces.items) }
+    ensures guards_vars { IfOk result (λ s. AllOf (λ ps. AllVars (length plant.now.vars.items) ps.items) s.guards.items) }
+    ensures losses_vars { IfOk result (λ s. AllHaveVars (length plant.now.vars.items) s.losses.items) }
+{
+    law_stages();
+    law_work();
+    match guards(alloc, plant, &round.next) {
+        Ok(guards) => Ok(Solved {
+            region: round.next,
+            guards,
+            rounds: rounds + 1,
+            losses: stage.losses,
+        }),
+        Err(halt) => Err(halted(halt, rounds + 1)),
+    }
+}
+
+// The budget is spent: a state that its last round removes, the sample of the first record.
+fn spent(alloc: Global, plant: &Plant, budget: u32, stage: &Stage) -> Stop
+    requires some { 0 < budget }
+    requires stage { IsAfter plant.now budget budget stage.now }
+    ensures { IsStoppedBy (plain_plant plant.now) budget result }
+{
+    law_work();
+    let loss = &stage.losses[stage.before];
+    match sample(alloc, &loss.piece) {
+        Ok(at) => Stop::Spent(State { loc: loss.loc, at }),
+        Err(halt) => halted(halt, budget),
+    }
+}

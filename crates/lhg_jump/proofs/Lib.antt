@@ -1,0 +1,9 @@
+pub mod Answering
+pub mod AwayCode
+pub mod CallCode
+pub mod HitCode
+pub mod PreSteps
+pub mod RangeSteps
+pub mod RegionSteps
+pub mod SafeSteps
+pub mod WalkSteps

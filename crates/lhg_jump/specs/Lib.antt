@@ -1,0 +1,3 @@
+pub mod HitViews
+pub mod OutViews
+pub mod PlantLists

@@ -1,0 +1,17 @@
+// What switches do to sets of states: the safe states, the states from which a switch leads into pieces, those from which the
+// plant leaves a region, and those from which the controller keeps it.
+#![tactic(auto)]
+
+mod backs;
+mod hits;
+mod invariants;
+mod outs;
+mod predecessors;
+mod safe;
+mod telling;
+
+pub use backs::{back, guards};
+pub use hits::Hit;
+pub use outs::{Outs, out};
+pub use predecessors::pre;
+pub use safe::safe_region;

@@ -1,0 +1,25 @@
+// What is known of each piece by its type.
+ghost use Rattle.lhg_num.specs.FracArithmetic.{frac_arithmetic};
+ghost use Rattle.lhg_math.specs.Tests.{AllOf};
+ghost use Rattle.lhg_union.specs.PolyLists.{ArePolys};
+
+use lhg_num::Frac;
+use lhg_poly::Poly;
+
+/// A call on a piece tells its invariant. This one tells those of a list.
+pub(crate) fn tell_pieces(pieces: &[Poly<Frac>])
+    ensures { ArePolys frac_arithmetic pieces.now }
+{
+    for piece in pieces {
+        let _ = piece.rows();
+    }
+}
+
+/// The same of the lists of a region.
+pub(crate) fn tell_region(region: &[Vec<Poly<Frac>>])
+    ensures { AllOf (λ ps. ArePolys frac_arithmetic ps.items) region.now }
+{
+    for pieces in region {
+        tell_pieces(pieces);
+    }
+}

@@ -1,0 +1,12 @@
+pub mod Holding
+pub mod Iterate
+pub mod LimitFacts
+pub mod Records
+pub mod RoundFacts
+pub mod RoundLaws
+pub mod SeekLaws
+pub mod SolveLaws
+pub mod StageFacts
+pub mod Views
+pub mod WorkLaws
+pub mod WorkedRounds

@@ -1,0 +1,2 @@
+mod MotionExamples
+mod ReachExamples

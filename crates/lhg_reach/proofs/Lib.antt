@@ -1,0 +1,5 @@
+pub mod Cases
+pub mod Growing
+pub mod Newest
+pub mod Pairs
+pub mod Searches

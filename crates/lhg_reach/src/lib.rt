@@ -1,0 +1,14 @@
+// The pieces from which a play inside some pieces leads into bad ones.
+#![tactic(auto)]
+
+mod found;
+pub mod laws;
+mod layer;
+mod neighbours;
+mod reaching;
+mod search;
+#[cfg(test)]
+mod tests;
+
+pub use found::{Found, Reached};
+pub use reaching::reach;

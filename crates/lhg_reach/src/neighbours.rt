@@ -1,0 +1,105 @@
+// Which ways can a near piece have a crossing through: those with whose closure it has a common point.
+ghost use Rattle.std.specs.Prelude.{◌≡◌, true, Some, IfOk, IfSome};
+ghost use Rattle.lhg_math.specs.Tests.{AllOf};
+ghost use Rattle.lhg_num.specs.Marked.{done};
+ghost use Rattle.lhg_num.specs.Halting.{IsHaltedByMemory};
+ghost use Rattle.lhg_row.specs.Width.{AllWide};
+ghost use Rattle.lhg_union.specs.PolyLists.{AllVars, ArePolys, HaveVars};
+ghost use Rattle.lhg_reach.specs.Neighbours.{EachWith, IsEdge, IsTable, IsTold};
+
+use lhg_num::{Halt, Scalar};
+use lhg_poly::{Poly, are_apart, closure};
+use std::alloc::Global;
+
+/// For each near piece, and for each way, whether the near piece and the closure of the way have a common point. Where a limit is passed on the way to know it,
+/// the entry says that they have. It halts for `Memory` alone.
+pub(crate) fn table_of<N: Scalar>(
+    alloc: Global,
+    near: &[Poly<N>],
+    ways: &[Poly<N>],
+) -> Result<Vec<Vec<bool>>, Halt>
+    requires vars { HaveVars near.now ways.now }
+    requires ways { ArePolys N.arithmetic ways.now }
+    ensures halts { IsHaltedByMemory result (done true) (λ _. true) }
+    ensures table { IfOk result (λ t. IsTable N.arithmetic near.now ways.now t.items) }
+{
+    let edges = edges_of(alloc, ways)?;
+    let mut table = Vec::with_capacity(alloc, near.len())?;
+    for from in near {
+        let row = entries(alloc, from, &edges)?;
+        table.push(row)?;
+    }
+    Ok(table)
+}
+
+// The closures of the ways; none in the place of one that passes a limit.
+fn edges_of<N: Scalar>(alloc: Global, ways: &[Poly<N>]) -> Result<Vec<Option<Poly<N>>>, Halt>
+    ensures halts { IsHaltedByMemory result (done true) (λ _. true) }
+    ensures edges { IfOk result (λ v. EachWith (IsEdge N.arithmetic) ways.now v.items) }
+{
+    let mut edges = Vec::with_capacity(alloc, ways.len())?;
+    for way in ways {
+        let edge = edge_of(alloc, way)?;
+        edges.push(edge)?;
+    }
+    Ok(edges)
+}
+
+// The closure of a way, or none where it passes a limit.
+#[tactic(auto, using(crate::proofs::Pairs::edge_halt))]
+fn edge_of<N: Scalar>(alloc: Global, way: &Poly<N>) -> Result<Option<Poly<N>>, Halt>
+    ensures halts { IsHaltedByMemory result (done true) (λ _. true) }
+    ensures edge { IfOk result (IsEdge N.arithmetic way.now) }
+{
+    match closure(alloc, way) {
+        Ok(edge) => Ok(Some(edge)),
+        Err(Halt::Memory) => Err(Halt::Memory),
+        Err(_) => Ok(None),
+    }
+}
+
+// The entries of one near piece.
+fn entries<N: Scalar>(
+    alloc: Global,
+    from: &Poly<N>,
+    edges: &[Option<Poly<N>>],
+) -> Result<Vec<bool>, Halt>
+    requires { AllOf (λ o. IfSome o (λ e. e.width ≡ from.now.width)) edges.now }
+    ensures halts { IsHaltedByMemory result (done true) (λ _. true) }
+    ensures told { IfOk result (λ v. EachWith (IsTold N.arithmetic from.now.width from.now.lines) edges.now v.items) }
+    ensures wide { AllWide from.now.width from.now.lines }
+{
+    let _ = from.rows();
+    let mut row = Vec::with_capacity(alloc, edges.len())?;
+    for edge in edges {
+        let told = entry(alloc, from, edge)?;
+        row.push(told)?;
+    }
+    Ok(row)
+}
+
+// Whether a near piece can have a crossing through the way with this closure.
+fn entry<N: Scalar>(alloc: Global, from: &Poly<N>, edge: &Option<Poly<N>>) -> Result<bool, Halt>
+    requires { IfSome edge.now (λ e. e.width ≡ from.now.width) }
+    ensures halts { IsHaltedByMemory result (done true) (λ _. true) }
+    ensures told { IfOk result (IsTold N.arithmetic from.now.width from.now.lines edge.now) }
+{
+    match edge {
+        None => Ok(true),
+        Some(edge) => can_touch(alloc, from, edge),
+    }
+}
+
+// Whether the piece and the closure have a common point, or a limit is passed on the way to know it.
+#[tactic(auto, using(crate::proofs::Pairs::told_halt, crate::proofs::Pairs::told_answer))]
+fn can_touch<N: Scalar>(alloc: Global, from: &Poly<N>, edge: &Poly<N>) -> Result<bool, Halt>
+    requires { edge.now.width ≡ from.now.width }
+    ensures halts { IsHaltedByMemory result (done true) (λ _. true) }
+    ensures told { IfOk result (IsTold N.arithmetic from.now.width from.now.lines (Some edge.now)) }
+{
+    match are_apart(alloc, from, edge) {
+        Ok(apart) => Ok(!apart),
+        Err(Halt::Memory) => Err(Halt::Memory),
+        Err(_) => Ok(true),
+    }
+}

@@ -1,0 +1,9 @@
+pub mod BoxLaws
+pub mod BoxPoint
+pub mod BoxSteps
+pub mod BoxSum
+pub mod Edges
+pub mod Farkas
+pub mod MixSteps
+pub mod Singles
+pub mod VerdictLaws

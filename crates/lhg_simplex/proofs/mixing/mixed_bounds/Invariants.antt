@@ -1,0 +1,11 @@
+use Rattle.std.proofs.Common.{map, drop}
+use Rattle.lhg_num.specs.Marked.{IsRest}
+use Rattle.lhg_row.specs.Values.{marked_value}
+use Rattle.lhg_simplex.specs.Mixed.{bound_of, marked_mixed}
+use Rattle.lhg_simplex.proofs.mixing.mixed_bounds.Given as goal
+
+abbrev pub invariant-loop-i : goal.invariant-loop-i
+invariant-loop-i g l =
+    let m = g.N.Scalar.meaning in
+    let a = g.N.Scalar.arithmetic in
+    IsRest (marked_mixed a bound_of (map m l.ms) l.rows) (marked_value a (m l.sum) (drop l.i (map m l.ms)) (drop l.i (map bound_of l.rows)))

@@ -1,0 +1,6 @@
+pub mod BoundView
+pub mod Boxes
+pub mod Hint
+pub mod Laws
+pub mod Mixed
+pub mod Verdict

@@ -1,0 +1,4 @@
+pub mod Fields
+pub mod Formed
+pub mod LiftSteps
+pub mod Steps
