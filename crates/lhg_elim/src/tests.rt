@@ -165,16 +165,22 @@ fn refuses_wide_numbers(rt: HostRuntime) -> Result<(), Fail> {
     Ok(())
 }
 
-// Over whole rows the list is the one over fractions, also where the products of their denominators are refused.
+// i*y + x and x - i*y are at most 1/i for i from 1 to 40.
+fn fractions(alloc: Global) -> Result<System<Frac>, Halt>
+    ensures { IfOk result (λ s. s.width ≡ 2) }
+{
+    let mut lines = Vec::new(alloc);
+    for i in 1..=40i64 {
+        let bound = Frac::new(1, i128::from(i))?;
+        lines.push((Frac::from(i), bound))?;
+        lines.push((Frac::from(-i), bound))?;
+    }
+    slopes(alloc, &lines)
+}
+
 #[test]
 fn agrees_with_fractions(rt: HostRuntime) -> Result<(), Fail> {
-    let mut lines = Vec::new(rt.alloc());
-    for i in 1..=40 {
-        let bound = Frac::new(1, i)?;
-        lines.push((Frac::new(i, 1)?, bound))?;
-        lines.push((Frac::new(-i, 1)?, bound))?;
-    }
-    let sys = slopes(rt.alloc(), &lines)?;
+    let sys = fractions(rt.alloc())?;
     assert!(rt; sys.vars() == 2);
     let left = eliminate(rt.alloc(), &sys, 1)?;
     let plain = eliminate_plain(rt.alloc(), &sys, 1)?;
@@ -182,6 +188,12 @@ fn agrees_with_fractions(rt: HostRuntime) -> Result<(), Fail> {
     for (row, other) in left.rows().iter().zip(plain.rows()) {
         assert_eq!(rt; shown(row), shown(other));
     }
+    Ok(())
+}
+
+// The products of these denominators are refused, and over whole rows none is formed.
+#[test]
+fn answers_where_fractions_are_wide(rt: HostRuntime) -> Result<(), Fail> {
     let far = 18_446_744_073_709_551_616;
     let nothing = Frac::from(0);
     let sys = slopes(
@@ -193,11 +205,9 @@ fn agrees_with_fractions(rt: HostRuntime) -> Result<(), Fail> {
     )?;
     assert!(rt; sys.vars() == 2);
     let left = eliminate(rt.alloc(), &sys, 1)?;
+    let want = (Some((1, 1)), Kind::Weak, (0, 1));
     assert_eq!(rt; left.rows().len(), 1);
-    assert_eq!(rt;
-        left.rows().first().map(shown),
-        Some((Some((1, 1)), Kind::Weak, (0, 1)))
-    );
+    assert_eq!(rt; left.rows().first().map(shown), Some(want));
     let plain = eliminate_plain(rt.alloc(), &sys, 1);
     assert_eq!(rt; plain.err(), Some(Halt::Wide));
     Ok(())

@@ -1,6 +1,5 @@
 // The rows of two sums with an operator between.
 ghost use Rattle.std.specs.Prelude.{◌≡◌, ◌++◌, ◌∷◌, [], length, map, IfOk, Some, All};
-ghost use Rattle.lhg_math.specs.Number.{neg};
 ghost use Rattle.lhg_lex.specs.TextTokens.{plain_of, IsSpan};
 ghost use Rattle.lhg_read.specs.Term.{width};
 ghost use Rattle.lhg_read.specs.Pair.{opposite_row, rows_by, pair_of};
@@ -49,19 +48,12 @@ fn row_from(alloc: Global, sum: &Sum, kind: Kind) -> Result<Row<Frac>, AllocErro
     })
 }
 
-// The numbers with the other sign.
-fn negatives(alloc: Global, coefs: &[Frac]) -> Result<Vec<Frac>, AllocError>
-    ensures { IfOk result (λ v. v.items ≡ map neg coefs.now) }
-{
-    coefs.iter().map(|q| q.neg()).collect(alloc)
-}
-
 // The row with the other sign on both sides.
 fn opposite_row(alloc: Global, row: &Row<Frac>) -> Result<Row<Frac>, AllocError>
     ensures { IfOk result (λ r. r ≡ opposite_row row.now) }
 {
     Ok(Row {
-        coefs: negatives(alloc, &row.coefs)?,
+        coefs: row.coefs.iter().map(|q| q.neg()).collect(alloc)?,
         kind: row.kind,
         bound: row.bound.neg(),
     })
