@@ -3,6 +3,8 @@
 
 mod answers;
 mod input;
+#[cfg(test)]
+mod region_tests;
 mod solving;
 mod status;
 mod telling;

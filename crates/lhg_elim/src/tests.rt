@@ -166,7 +166,7 @@ fn refuses_wide_numbers(rt: HostRuntime) -> Result<(), Fail> {
 }
 
 // i*y + x and x - i*y are at most 1/i for i from 1 to 40.
-fn fractions(alloc: Global) -> Result<System<Frac>, Halt>
+fn fractions(alloc: Global) -> Result<System<Frac>, Fail>
     ensures { IfOk result (λ s. s.width ≡ 2) }
 {
     let mut lines = Vec::new(alloc);
@@ -175,7 +175,7 @@ fn fractions(alloc: Global) -> Result<System<Frac>, Halt>
         lines.push((Frac::from(i), bound))?;
         lines.push((Frac::from(-i), bound))?;
     }
-    slopes(alloc, &lines)
+    Ok(slopes(alloc, &lines)?)
 }
 
 #[test]

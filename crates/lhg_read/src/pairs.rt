@@ -14,7 +14,7 @@ use crate::sums::{Sum, put_terms};
 use lhg_lex::{Lines, Token};
 use lhg_num::{Frac, Scalar};
 use lhg_plant::Name;
-use lhg_row::{Kind, Row};
+use lhg_row::{Kind, Row, negate};
 use std::alloc::{AllocError, Global};
 
 // How many coefficients the rows of a line have.
@@ -52,11 +52,13 @@ fn row_from(alloc: Global, sum: &Sum, kind: Kind) -> Result<Row<Frac>, AllocErro
 fn opposite_row(alloc: Global, row: &Row<Frac>) -> Result<Row<Frac>, AllocError>
     ensures { IfOk result (λ r. r ≡ opposite_row row.now) }
 {
-    Ok(Row {
-        coefs: row.coefs.iter().map(|q| q.neg()).collect(alloc)?,
-        kind: row.kind,
-        bound: row.bound.neg(),
-    })
+    match negate(alloc, row) {
+        Ok(mut opposite) => {
+            opposite.kind = row.kind;
+            Ok(opposite)
+        }
+        Err(_) => Err(AllocError),
+    }
 }
 
 // Appends the rows of a pair, given all its terms on the left.
