@@ -4,7 +4,7 @@ ghost use Rattle.lhg_row.specs.Width.{AllWide};
 
 use crate::elimination::eliminate_plain;
 use crate::{comb, eliminate, eliminate_last, is_empty};
-use lhg_num::{Frac, Halt};
+use lhg_num::{Frac, Halt, Scalar};
 use lhg_row::{Kind, Row, System, trim, whole_row};
 use std::alloc::Global;
 use std::process::Abort;
@@ -172,8 +172,9 @@ fn fractions(alloc: Global) -> Result<System<Frac>, Fail>
     let mut lines = Vec::new(alloc);
     for i in 1..=40i64 {
         let bound = Frac::new(1, i128::from(i))?;
-        lines.push((Frac::from(i), bound))?;
-        lines.push((Frac::from(-i), bound))?;
+        let slope = Frac::from(i);
+        lines.push((slope, bound))?;
+        lines.push((slope.neg(), bound))?;
     }
     Ok(slopes(alloc, &lines)?)
 }
