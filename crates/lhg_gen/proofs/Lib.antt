@@ -1,0 +1,4 @@
+pub mod Lengths
+pub mod LinesSay
+pub mod NumberedNames
+pub mod PlantIs

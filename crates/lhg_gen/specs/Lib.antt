@@ -1,0 +1,3 @@
+pub mod GeneratedPlant
+pub mod GeneratedText
+pub mod Sizes

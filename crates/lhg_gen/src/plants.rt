@@ -1,0 +1,91 @@
+// The text of a plant with k locations, each of which leaves its safe states in round k or earlier.
+ghost use Rattle.std.specs.Prelude.{◌≡◌, ◌≤◌, ◌<◌, ◌+◌, ◌-◌, ◌++◌, ◌∷◌, OnOk, IfOk, IfErr, length, codes, decimal};
+ghost use Rattle.std.specs.List.{flat_map, range_with_len};
+ghost use Rattle.lhg_lex.specs.Lines.{lines_of, most_bytes};
+ghost use Rattle.lhg_read.specs.PlantText.{IsPlantText};
+ghost use Rattle.lhg_row_text.specs.PrintedLine.{line};
+ghost use Rattle.lhg_gen.specs.GeneratedPlant.{generated_plant};
+ghost use Rattle.lhg_gen.specs.GeneratedText.{location_lines, switch_line, generated_text};
+ghost use Rattle.lhg_gen.specs.Sizes.{IsSize, HasCause};
+
+use crate::GenStop;
+use itoa::Buffer;
+use std::alloc::{AllocError, Global};
+
+/// The most locations of a generated plant.
+pub const MOST_LOCATIONS: u32 = 64;
+
+// Appends a space, a letter and a number.
+fn push_name(text: &mut Vec<u8>, letter: u8, number: u32) -> Result<(), AllocError>
+    ensures { OnOk result (text.new.items ≡ text.old.items ++ 32 ∷ letter ∷ decimal number) }
+{
+    let mut buffer = Buffer::new();
+    text.extend_from_slice(&[b' ', letter])?;
+    text.extend_from_slice(buffer.format(number).as_bytes())
+}
+
+// The lines of a location.
+fn push_location(text: &mut Vec<u8>, number: u32) -> Result<(), AllocError>
+    ensures { OnOk result (text.new.items ≡ text.old.items ++ flat_map line (location_lines number)) }
+{
+    text.extend_from_slice(b"loc")?;
+    push_name(text, b'a', number)?;
+    text.extend_from_slice(b"\ninv 0 <= x <= 10\nflow x = 1\nsafe x <= 8\nsafe x >= 9\n")
+}
+
+// The locations from the first to this one.
+fn push_locations(text: &mut Vec<u8>, last: u32) -> Result<(), AllocError>
+    requires { last ≤ 64 }
+    ensures { OnOk result (text.new.items ≡ text.old.items ++ flat_map line (flat_map location_lines (range_with_len 1 last))) }
+{
+    for number in 1..last + 1 {
+        push_location(text, number)?;
+    }
+    Ok(())
+}
+
+// The line of the switch from a location to the next.
+fn push_switch(text: &mut Vec<u8>, number: u32) -> Result<(), AllocError>
+    requires { number < 64 }
+    ensures { OnOk result (text.new.items ≡ text.old.items ++ line (switch_line number)) }
+{
+    text.extend_from_slice(b"switch")?;
+    push_name(text, b'g', number)?;
+    text.extend_from_slice(b" ctl")?;
+    push_name(text, b'a', number)?;
+    push_name(text, b'a', number + 1)?;
+    text.extend_from_slice(b" keep\n")
+}
+
+// The switches of all locations before this one.
+fn push_switches(text: &mut Vec<u8>, last: u32) -> Result<(), AllocError>
+    requires some { 1 ≤ last }
+    requires few { last ≤ 64 }
+    ensures { OnOk result (text.new.items ≡ text.old.items ++ flat_map line (map switch_line (range_with_len 1 (last - 1)))) }
+{
+    for number in 1..last {
+        push_switch(text, number)?;
+    }
+    Ok(())
+}
+
+/// The text of the plant with `k` locations, from which the plant can be read. From each location but the last a switch leads to
+/// the next.
+pub fn plant_of(alloc: Global, k: u32) -> Result<Vec<u8>, GenStop>
+    ensures size { OnOk result (IsSize k) }
+    ensures text { IfOk result (λ v. v.items ≡ generated_text k) }
+    // the text is a plant of the grammar, and short enough to be read
+    ensures plant { IfOk result (λ v. IsPlantText (lines_of v.items) (generated_plant k)) }
+    ensures short { IfOk result (λ v. length v.items ≤ most_bytes) }
+    ensures err { IfErr result (HasCause k) }
+{
+    if k < 1 || k > MOST_LOCATIONS {
+        return Err(GenStop::Range);
+    }
+    let mut text = Vec::new(alloc);
+    text.extend_from_slice(b"lhg 1\nvars x\n")?;
+    push_locations(&mut text, k)?;
+    push_switches(&mut text, k)?;
+    text.extend_from_slice(b"end\n")?;
+    Ok(text)
+}
