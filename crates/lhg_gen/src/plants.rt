@@ -1,5 +1,5 @@
 // The text of a plant with k locations, each of which leaves its safe states in round k or earlier.
-ghost use Rattle.std.specs.Prelude.{◌≡◌, ◌≤◌, ◌<◌, ◌+◌, ◌-◌, ◌++◌, ◌∷◌, OnOk, IfOk, IfErr, length, codes, decimal};
+ghost use Rattle.std.specs.Prelude.{◌≡◌, ◌≤◌, ◌<◌, ◌-◌, ◌++◌, ◌∷◌, OnOk, IfOk, IfErr, length, map, decimal};
 ghost use Rattle.std.specs.List.{flat_map, range_with_len};
 ghost use Rattle.lhg_lex.specs.Lines.{lines_of, most_bytes};
 ghost use Rattle.lhg_read.specs.PlantText.{IsPlantText};
