@@ -1,4 +1,5 @@
 pub mod Lengths
 pub mod LinesSay
+pub mod MoreLines
 pub mod NumberedNames
 pub mod PlantIs

@@ -115,11 +115,10 @@ unfolding rows_of constraint_of
 keep_read = refl
 
 module _ (name from to : List ℕ) (n : IsName name) (f : IsName from) (t : IsName to) where
-  written_as : WrittenSwitch
+  abbrev written_as : WrittenSwitch
   written_as = record { name = name; side = Ctl; from = from; to = to; jump = keep_rows 1 }
 
   switch_read : switch_of vars (word name ∷ word (codes "ctl") ∷ word from ∷ word to ∷ word (codes "keep") ∷ []) ≡ Some written_as
-  unfolding written_as
   switch_read =
       let a = name_read name n in
       let b = name_read from f in

@@ -43,10 +43,8 @@ same_number letter m n h k e = decimal_injective m n (omega arith) (omega arith)
 
 module _ (name : ℕ → List ℕ) (same : (m n : ℕ) → m < 100 → n < 100 → name m ≡ name n → m ≡ n) where
   unlike : (i j : ℕ) → i < j → j < 100 → bytes_eq (name i) (name j) ≡ false
-  unlike i j h k = by_bool (bytes_eq (name i) (name j)) (λ e. absurd (apart (same i j (omega arith) k ((bytes_eq-Decides (name i) (name j)).0 e)))) (λ e. e)
-    where
-      apart : i ≡ j → ⊥
-      apart e = omega arith
+  unlike i j h k =
+      by_bool (bytes_eq (name i) (name j)) (λ e. let equal = same i j (omega arith) k ((bytes_eq-Decides (name i) (name j)).0 e) in absurd (omega arith)) (λ e. e)
 
   -- a later name is not among these
   later : (a n j : ℕ) → a + n ≤ j → j < 100 → is_among (name j) (map name (range_with_len a n)) ≡ false
@@ -59,5 +57,6 @@ module _ (name : ℕ → List ℕ) (same : (m n : ℕ) → m < 100 → n < 100 �
   pub numbered_differ : (a n : ℕ) → a + n ≤ 100 → all_differ (map name (range_with_len a n)) ≡ true
   numbered_differ a zero h = refl
   numbered_differ a (suc n) h =
-      ap all_differ (map-range_with_len_more name a n (a + n) refl)
+      let next : suc n ≡ n + 1 = omega arith in
+      ap (λ m. all_differ (map name (range_with_len a m))) next ∙ ap all_differ (map-range_with_len_more name a n (a + n) refl)
       ∙ differ_more (map name (range_with_len a n)) (name (a + n)) (numbered_differ a n (omega arith)) (later a n (a + n) (omega arith) (omega arith))

@@ -28,7 +28,13 @@ use Rattle.lhg_gen.proofs.NumberedNames.{same_number, numbered_differ}
 
 each_block : (a n : ℕ) → AllOf IsBlock (map written_block (range_with_len a n))
 each_block a zero = tt
-each_block a (suc n) = (record { one_inv = omega arith; one_flow = omega arith; few_safe = omega arith }, each_block (a + 1) n)
+each_block a (suc n) = (record { one_inv = one; one_flow = one; few_safe = two }, each_block (a + 1) n)
+  where
+    one : 1 ≤ 1
+    one = omega arith
+
+    two : 2 ≤ 64
+    two = omega arith
 
 locations_are : (a n : ℕ) → map generated_location (range_with_len a n) ≡ map (location_of 1) (map written_block (range_with_len a n))
 locations_are a zero = refl
@@ -36,31 +42,30 @@ locations_are a (suc n) = ap (λ ls. generated_location a ∷ ls) (locations_are
 
 -- ---- the switches
 
-module _ (k : ℕ) (h : IsSize k) where
-  names : List (List ℕ)
-  names = map location_word (range_with_len 1 k)
+-- the names of the locations
+abbrev names_to : ℕ → List (List ℕ)
+names_to k = map location_word (range_with_len 1 k)
 
-  names_differ : all_differ names ≡ true
-  unfolding names
+module _ (k : ℕ) (h : IsSize k) where
+  names_differ : all_differ (names_to k) ≡ true
   names_differ = let few = h.few in numbered_differ location_word (same_number 97) 1 k (omega arith)
 
   -- a location is found by its name
-  found : (i place : ℕ) → place < k → 1 + place ≡ i → place_of (location_word i) names ≡ Some place
-  unfolding names
+  found : (i place : ℕ) → place < k → 1 + place ≡ i → place_of (location_word i) (names_to k) ≡ Some place
   found i place less is =
       let size = length-map-range_with_len location_word 1 k in
-      ap (λ w. place_of w names) (sym (get_or-map-range_with_len location_word 1 k place i [] less is)) ∙ place_of_name names place (omega arith) names_differ
+      ap (λ w. place_of w (names_to k)) (sym (get_or-map-range_with_len location_word 1 k place i [] less is)) ∙ place_of_name (names_to k) place (omega arith) names_differ
 
-  switch_is : (i : ℕ) → 1 ≤ i → i < k → switch_at names (written i) ≡ Some (generated_switch i)
+  switch_is : (i : ℕ) → 1 ≤ i → i < k → switch_at (names_to k) (written i) ≡ Some (generated_switch i)
   switch_is i some less =
       let from = found i (i - 1) (omega arith) (omega arith) in
       let to = found (i + 1) i less (omega arith) in
       rw (from, to) refl
 
-  switches_are : (a n : ℕ) → 1 ≤ a → a + n ≤ k → map (switch_at names) (map written (range_with_len a n)) ≡ map (λ s. Some s) (map generated_switch (range_with_len a n))
+  switches_are : (a n : ℕ) → 1 ≤ a → a + n ≤ k → map (switch_at (names_to k)) (map written (range_with_len a n)) ≡ map (λ s. Some s) (map generated_switch (range_with_len a n))
   switches_are a zero some less = refl
   switches_are a (suc n) some less =
-      ap (λ o. o ∷ map (switch_at names) (map written (range_with_len (a + 1) n))) (switch_is a some (omega arith))
+      ap (λ o. o ∷ map (switch_at (names_to k)) (map written (range_with_len (a + 1) n))) (switch_is a some (omega arith))
       ∙ ap (λ os. Some (generated_switch a) ∷ os) (switches_are (a + 1) n (omega arith) (omega arith))
 
   -- ---- the plant
@@ -75,8 +80,7 @@ module _ (k : ℕ) (h : IsSize k) where
   rest : AreTokens (flat_map location_lines (range_with_len 1 k) ++ (map switch_line (range_with_len 1 (k - 1)) ++ codes "end" ∷ [])) (plant_lines (map written_block (range_with_len 1 k)) (map written (range_with_len 1 (k - 1))))
   rest = let few = h.few in let some = h.some in locations_say 1 k (omega arith) (switches_say 1 (k - 1) (omega arith))
 
-  block_names : map (λ b. b.name) (map written_block (range_with_len 1 k)) ≡ names
-  unfolding names
+  block_names : map (λ b. b.name) (map written_block (range_with_len 1 k)) ≡ names_to k
   block_names = map-map (λ (b : Block). b.name) written_block (range_with_len 1 k)
 
   plant_is : IsPlant (head_spots ∷ vars_spots ∷ rest.tokens) (generated_plant k)

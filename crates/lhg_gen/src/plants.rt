@@ -33,13 +33,13 @@ fn push_location(text: &mut Vec<u8>, number: u32) -> Result<(), AllocError>
     text.extend_from_slice(b"\ninv 0 <= x <= 10\nflow x = 1\nsafe x <= 8\nsafe x >= 9\n")
 }
 
-// The locations from the first to this one.
-fn push_locations(text: &mut Vec<u8>, last: u32) -> Result<(), AllocError>
-    requires { last ≤ 64 }
-    ensures { OnOk result (text.new.items ≡ text.old.items ++ flat_map line (flat_map location_lines (range_with_len 1 last))) }
+// The first locations, so many.
+fn push_locations(text: &mut Vec<u8>, count: u32) -> Result<(), AllocError>
+    requires { count ≤ 64 }
+    ensures { OnOk result (text.new.items ≡ text.old.items ++ flat_map line (flat_map location_lines (range_with_len 1 count))) }
 {
-    for number in 1..last + 1 {
-        push_location(text, number)?;
+    for i in 0..count {
+        push_location(text, i + 1)?;
     }
     Ok(())
 }
@@ -57,20 +57,31 @@ fn push_switch(text: &mut Vec<u8>, number: u32) -> Result<(), AllocError>
     text.extend_from_slice(b" keep\n")
 }
 
-// The switches of all locations before this one.
-fn push_switches(text: &mut Vec<u8>, last: u32) -> Result<(), AllocError>
-    requires some { 1 ≤ last }
-    requires few { last ≤ 64 }
-    ensures { OnOk result (text.new.items ≡ text.old.items ++ flat_map line (map switch_line (range_with_len 1 (last - 1)))) }
+// The first switches, so many.
+fn push_switches(text: &mut Vec<u8>, count: u32) -> Result<(), AllocError>
+    requires { count < 64 }
+    ensures { OnOk result (text.new.items ≡ text.old.items ++ flat_map line (map switch_line (range_with_len 1 count))) }
 {
-    for number in 1..last {
-        push_switch(text, number)?;
+    for i in 0..count {
+        push_switch(text, i + 1)?;
     }
     Ok(())
 }
 
-/// The text of the plant with `k` locations, from which the plant can be read. From each location but the last a switch leads to
-/// the next.
+// The text of the plant with so many locations.
+fn text_with(alloc: Global, count: u32) -> Result<Vec<u8>, AllocError>
+    requires { IsSize count }
+    ensures { IfOk result (λ v. v.items ≡ generated_text count) }
+{
+    let mut text = Vec::new(alloc);
+    text.extend_from_slice(b"lhg 1\nvars x\n")?;
+    push_locations(&mut text, count)?;
+    push_switches(&mut text, count - 1)?;
+    text.extend_from_slice(b"end\n")?;
+    Ok(text)
+}
+
+/// The text of the plant with `k` locations, 1 to 64 of them. From each but the last a switch leads to the next.
 pub fn plant_of(alloc: Global, k: u32) -> Result<Vec<u8>, GenStop>
     ensures size { OnOk result (IsSize k) }
     ensures text { IfOk result (λ v. v.items ≡ generated_text k) }
@@ -82,10 +93,6 @@ pub fn plant_of(alloc: Global, k: u32) -> Result<Vec<u8>, GenStop>
     if k < 1 || k > MOST_LOCATIONS {
         return Err(GenStop::Range);
     }
-    let mut text = Vec::new(alloc);
-    text.extend_from_slice(b"lhg 1\nvars x\n")?;
-    push_locations(&mut text, k)?;
-    push_switches(&mut text, k)?;
-    text.extend_from_slice(b"end\n")?;
+    let text = text_with(alloc, k)?;
     Ok(text)
 }
