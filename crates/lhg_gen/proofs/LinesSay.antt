@@ -1,9 +1,9 @@
 -- What do the lines of a generated plant say?
-use Rattle.std.proofs.Common.{◌≡◌, ◌+◌, ◌<◌, ◌≤◌, ℕ, zero, suc, List, [], ◌∷◌, ◌++◌, map, refl, ap, ◌∙◌, true, false, Some, arith, codes}
+use Rattle.std.proofs.Common.{◌≡◌, ◌+◌, ◌≤◌, ℕ, zero, suc, List, [], ◌∷◌, ◌++◌, map, refl, ap, ◌∙◌, true, false, Some, arith, codes}
 use Rattle.std.specs.Prelude.{pos}
 use Rattle.std.specs.List.{list_all, flat_map, range_with_len}
 use Rattle.std.specs.Option.{option_map}
-use Rattle.lhg_math.specs.Number.{neg, nought, unit, whole}
+use Rattle.lhg_math.specs.Number.{neg, unit, whole}
 use Rattle.lhg_math.specs.NumberRing.{neg_neg}
 use Rattle.lhg_math.specs.Tests.{AllOf}
 use Rattle.lhg_lex.specs.Longest.{longest}

@@ -1,5 +1,5 @@
 -- A generated text is a plant of the grammar, and this is its value.
-use Rattle.std.proofs.Common.{◌≡◌, ◌+◌, ◌-◌, ◌<◌, ◌≤◌, ℕ, zero, suc, List, [], ◌∷◌, ◌++◌, length, map, get_or, refl, sym, ap, ◌∙◌, subst, true, Some, Ok, arith, codes}
+use Rattle.std.proofs.Common.{◌≡◌, ◌+◌, ◌-◌, ◌<◌, ◌≤◌, ℕ, zero, suc, List, [], ◌∷◌, ◌++◌, map, refl, sym, ap, ◌∙◌, subst, true, Some, Ok, arith, codes}
 use Rattle.std.specs.List.{flat_map, range_with_len}
 use Rattle.std.proofs.lemmas.List.FromFn.{length-map-range_with_len, get_or-map-range_with_len}
 use Rattle.std.proofs.lemmas.Simd.{map-map}
@@ -9,12 +9,10 @@ use Rattle.lhg_lex.specs.Longest.{longest}
 use Rattle.lhg_lex.specs.LineTokens.{Spot, tokens_of}
 use Rattle.lhg_lex.specs.PlainToken.{word}
 use Rattle.lhg_plant.specs.Differ.{all_differ}
-use Rattle.lhg_plant.specs.Plant.{PlainSwitch}
-use Rattle.lhg_read.specs.Names.{vars_of}
 use Rattle.lhg_read.specs.PlantLine.{WrittenSwitch}
-use Rattle.lhg_read.specs.PlantText.{Block, IsBlock, location_of, switch_at, said_in, IsPlant, IsPlantText, plant_lines}
+use Rattle.lhg_read.specs.PlantText.{Block, IsBlock, location_of, switch_at, IsPlant, IsPlantText, plant_lines}
 use Rattle.lhg_read.specs.Term.{place_of}
-use Rattle.lhg_read.specs.TokenText.{token_line, token_lines}
+use Rattle.lhg_read.specs.TokenText.{token_lines}
 use Rattle.lhg_read.proofs.PlantContinues.{head_spots, head_tokens, head_is}
 use Rattle.lhg_row_text.proofs.LinesBack.{IsInner, lines_back}
 use Rattle.lhg_row_text.proofs.NamePlaces.{place_of_name}
