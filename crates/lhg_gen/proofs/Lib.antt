@@ -3,3 +3,4 @@ pub mod LinesSay
 pub mod MoreLines
 pub mod NumberedNames
 pub mod PlantIs
+pub mod ReadsBack

@@ -2,9 +2,11 @@
 #![tactic(auto)]
 
 mod plants;
+mod reading;
 mod stops;
 #[cfg(test)]
 mod tests;
 
 pub use plants::{MOST_LOCATIONS, plant_of};
+pub use reading::generate;
 pub use stops::GenStop;

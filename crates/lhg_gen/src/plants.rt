@@ -1,4 +1,4 @@
-// The text of a plant with k locations, each of which leaves its safe states in round k or earlier.
+// The text of a plant with k locations, which lose their states below the gap one after the other.
 ghost use Rattle.std.specs.Prelude.{◌≡◌, ◌≤◌, ◌<◌, ◌-◌, ◌++◌, ◌∷◌, OnOk, IfOk, IfErr, length, map, decimal};
 ghost use Rattle.std.specs.List.{flat_map, range_with_len};
 ghost use Rattle.lhg_lex.specs.Lines.{lines_of, most_bytes};

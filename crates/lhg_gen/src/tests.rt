@@ -1,5 +1,5 @@
 //! A plant of three locations, and the numbers at both ends.
-use crate::{GenStop, plant_of};
+use crate::{GenStop, generate, plant_of};
 use std::test::Fail;
 
 const ONE: &[u8] =
@@ -21,6 +21,14 @@ fn texts(rt: HostRuntime) -> Result<(), Fail> {
         most.as_slice()
             .ends_with(b"switch g63 ctl a63 a64 keep\nend\n")
     );
+    Ok(())
+}
+
+#[test]
+fn plants(rt: HostRuntime) -> Result<(), Fail> {
+    let plant = generate(rt.alloc(), 64)?;
+    assert_eq!(rt; plant.locs.len(), 64);
+    assert_eq!(rt; plant.switches.len(), 63);
     Ok(())
 }
 
