@@ -7,6 +7,6 @@ mod stops;
 #[cfg(test)]
 mod tests;
 
-pub use plants::{MOST_LOCATIONS, plant_of};
+pub use plants::plant_of;
 pub use reading::generate;
 pub use stops::GenStop;

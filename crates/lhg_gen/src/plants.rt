@@ -10,10 +10,8 @@ ghost use Rattle.lhg_gen.specs.Sizes.{IsSize, HasCause};
 
 use crate::GenStop;
 use itoa::Buffer;
+use lhg_plant::MOST_LOCATIONS;
 use std::alloc::{AllocError, Global};
-
-/// The most locations of a generated plant.
-pub const MOST_LOCATIONS: u32 = 64;
 
 // Appends a space, a letter and a number.
 fn push_name(text: &mut Vec<u8>, letter: u8, number: u32) -> Result<(), AllocError>
@@ -90,7 +88,7 @@ pub fn plant_of(alloc: Global, k: u32) -> Result<Vec<u8>, GenStop>
     ensures short { IfOk result (λ v. length v.items ≤ most_bytes) }
     ensures err { IfErr result (HasCause k) }
 {
-    if k < 1 || k > MOST_LOCATIONS {
+    if k < 1 || k as usize > MOST_LOCATIONS {
         return Err(GenStop::Range);
     }
     let text = text_with(alloc, k)?;
