@@ -1,1 +1,4 @@
+pub mod CutPlaces
+pub mod Inserting
 pub mod JoinSteps
+pub mod TurnPlaces
