@@ -24,7 +24,7 @@ use crate::copies::copy_point;
 use crate::doing::Done;
 use crate::picks::first_result;
 use crate::rows::run_rows;
-use crate::ways::{Stop, Way, way};
+use crate::ways::{Stop, Way, follow};
 use lhg_ctl::Controller;
 use lhg_num::{Frac, Halt, Scalar};
 use lhg_plant::{Plant, Side, State, legal_flow};
@@ -55,7 +55,7 @@ pub(crate) fn flow(
     }
     let rows = run_rows(alloc, plant, controller, from.loc)?;
     let places = cut(alloc, &from.at, to, &rows)?;
-    match way(alloc, plant, controller, from, to, &places)? {
+    match follow(alloc, plant, controller, from, to, &places)? {
         Way::Whole => Ok(Some(passed(alloc, from, time, to)?)),
         Way::Stopped(stop) => Ok(Some(stopped(alloc, plant, controller, from, time, stop)?)),
     }

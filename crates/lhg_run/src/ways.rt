@@ -43,7 +43,7 @@ pub(crate) enum Way {
 
 /// How far the controller lets the flow run, where the places are the check points: to the last one with a guard before the first one
 /// outside the region. A valid controller always has one.
-pub(crate) fn way(
+pub(crate) fn follow(
     alloc: Global,
     plant: &Plant,
     controller: &Controller,
