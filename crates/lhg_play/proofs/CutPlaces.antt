@@ -43,29 +43,29 @@ module _ (x y : PlainPoint) (same : length x ≡ length y) where
   abbrev Formed : List Number → List PlainRow → List Number
   Formed ps rows = (walk (with_turn x (displacement x y)) ps rows).value
 
-  rows-from : (q : Number) (ps : List Number) (rows : List PlainRow) → IsIn q (Formed ps rows) → IsIn q ps ⊎ (IsPlace q × SomeTurn rows x y q)
-  rows-from q ps [] h = inl h
-  rows-from q ps (r ∷ rows) h =
+  rows-from : (q : Number) (rows : List PlainRow) (ps : List Number) → IsIn q (Formed ps rows) → IsIn q ps ⊎ (IsPlace q × SomeTurn rows x y q)
+  rows-from q [] ps h = inl h
+  rows-from q (r ∷ rows) ps h =
       let o = (turn_place x (displacement x y) r).value in
-      elim (rows-from q (with_place ps o).value rows h) [
+      elim (rows-from q rows (with_turn x (displacement x y) ps r).value h) [
         | inl k ↦ elim (place-from r q ps o (turn-place r x y same) k) [ inl i ↦ inl i | inr i ↦ inr (i.0, inl i.1) ]
         | inr k ↦ inr (k.0, inr k.1)
       ]
 
-  rows-to : (q : Number) (ps : List Number) (rows : List PlainRow) → IsIn q ps ⊎ (IsPlace q × SomeTurn rows x y q) → IsIn q (Formed ps rows)
-  rows-to q ps [] (inl h) = h
-  rows-to q ps [] (inr h) = absurd h.1
-  rows-to q ps (r ∷ rows) h =
+  rows-to : (q : Number) (rows : List PlainRow) (ps : List Number) → IsIn q ps ⊎ (IsPlace q × SomeTurn rows x y q) → IsIn q (Formed ps rows)
+  rows-to q [] ps (inl h) = h
+  rows-to q [] ps (inr h) = absurd h.1
+  rows-to q (r ∷ rows) ps h =
       let o = (turn_place x (displacement x y) r).value in
       let t = turn-place r x y same in
-      rows-to q (with_place ps o).value rows (elim h [
+      rows-to q rows (with_turn x (displacement x y) ps r).value (elim h [
         | inl k ↦ inl (place-to r q ps o t (inl k))
         | inr k ↦ elim k.1 [ inl i ↦ inl (place-to r q ps o t (inr (k.0, i))) | inr i ↦ inr (k.0, i) ]
       ])
 
-  rows-ascending : (ps : List Number) (rows : List PlainRow) → IsAscending ps → IsAscending (Formed ps rows)
-  rows-ascending ps [] h = h
-  rows-ascending ps (r ∷ rows) h = rows-ascending _ rows (place-ascending ps (turn_place x (displacement x y) r).value h)
+  rows-ascending : (rows : List PlainRow) (ps : List Number) → IsAscending ps → IsAscending (Formed ps rows)
+  rows-ascending [] ps h = h
+  rows-ascending (r ∷ rows) ps h = rows-ascending rows (with_turn x (displacement x y) ps r).value (place-ascending ps (turn_place x (displacement x y) r).value h)
 
   module _ (rows : List PlainRow) where
     -- the cuts
@@ -74,7 +74,7 @@ module _ (x y : PlainPoint) (same : length x ≡ length y) where
 
     cuts-are : (q : Number) → IsIn q cuts → IsCut rows x y q
     cuts-are q h =
-        elim (rows-from q (nought ∷ unit ∷ []) rows h) [
+        elim (rows-from q rows (nought ∷ unit ∷ []) h) [
           | inl k ↦ elim k [
             | inl e ↦ record { place = subst (λ (w : Number). IsPlace w) e start_place; why = inl (sym e) }
             | inr m ↦ elim m [ inl e ↦ record { place = subst (λ (w : Number). IsPlace w) e end_place; why = inr (inl (sym e)) } | inr n ↦ absurd n ]
@@ -83,23 +83,23 @@ module _ (x y : PlainPoint) (same : length x ≡ length y) where
         ]
 
     cuts-all : (q : Number) → IsCut rows x y q → IsIn q cuts
-    cuts-all q c = rows-to q (nought ∷ unit ∷ []) rows (elim c.why [ inl e ↦ inl (inl (sym e)) | inr k ↦ elim k [ inl e ↦ inl (inr (inl (sym e))) | inr t ↦ inr (c.place, t) ] ])
+    cuts-all q c = rows-to q rows (nought ∷ unit ∷ []) (elim c.why [ inl e ↦ inl (inl (sym e)) | inr k ↦ elim k [ inl e ↦ inl (inr (inl (sym e))) | inr t ↦ inr (c.place, t) ] ])
 
     cuts-ascending : IsAscending cuts
-    cuts-ascending = rows-ascending (nought ∷ unit ∷ []) rows ((nought_unit, tt), (tt, tt))
+    cuts-ascending = rows-ascending rows (nought ∷ unit ∷ []) ((nought_unit, tt), (tt, tt))
 
     -- p and the places behind it are cuts in order, and all cuts above p are behind it
     record IsTrail (p : Number) (qs : List Number) : Type 0 where
-      cut : IsCut rows x y p
-      cuts : (c : Number) → IsIn c qs → IsCut rows x y c
+      here : IsCut rows x y p
+      ahead : (c : Number) → IsIn c qs → IsCut rows x y c
       ascending : IsAscending (p ∷ qs)
       above : (c : Number) → IsCut rows x y c → lt p c ≡ true → IsIn c qs
 
     -- the trail from the next cut on
     next : (p q : Number) (qs : List Number) → IsTrail p (q ∷ qs) → IsTrail q qs
     next p q qs t = record {
-      cut = t.cuts q (inl refl);
-      cuts = λ c h. t.cuts c (inr h);
+      here = t.ahead q (inl refl);
+      ahead = λ c h. t.ahead c (inr h);
       ascending = t.ascending.1;
       above = λ c h l. elim (t.above c h (lt_trans p q c t.ascending.0.0 l)) [ inl e ↦ clash (lt q c) l (ap (λ w. lt w c) e ∙ lt_irrefl c) | inr k ↦ k ];
     }
@@ -107,8 +107,8 @@ module _ (x y : PlainPoint) (same : length x ≡ length y) where
     -- a cut and the one behind it are neighbours
     beside : (p q : Number) (qs : List Number) → IsTrail p (q ∷ qs) → AreNeighbours rows x y p q
     beside p q qs t = record {
-      left = t.cut;
-      right = t.cuts q (inl refl);
+      left = t.here;
+      right = t.ahead q (inl refl);
       order = t.ascending.0.0;
       clear = λ c h l m. elim (t.above c h l) [
         | inl e ↦ clash (lt c q) m (ap (λ w. lt c w) e ∙ lt_irrefl c)
@@ -124,7 +124,7 @@ module _ (x y : PlainPoint) (same : length x ≡ length y) where
     behind-are : (p : Number) (qs : List Number) → IsTrail p qs → (c : Number) → IsIn c (behind p qs) → IsCheckPoint rows x y c
     behind-are p [] t c h = absurd h
     behind-are p (q ∷ qs) t c (inl e) = inr (record { left = p; right = q; neighbours = beside p q qs t; middle = sym e })
-    behind-are p (q ∷ qs) t c (inr (inl e)) = subst (λ (w : Number). IsCheckPoint rows x y w) e (inl (t.cuts q (inl refl)))
+    behind-are p (q ∷ qs) t c (inr (inl e)) = subst (λ (w : Number). IsCheckPoint rows x y w) e (inl (t.ahead q (inl refl)))
     behind-are p (q ∷ qs) t c (inr (inr h)) = behind-are q qs (next p q qs t) c h
 
     -- no check point is above the last cut
@@ -166,8 +166,8 @@ module _ (x y : PlainPoint) (same : length x ≡ length y) where
     module _ (p : Number) (qs : List Number) (are : (q : Number) → IsIn q (p ∷ qs) → IsCut rows x y q) (all : (q : Number) → IsCut rows x y q → IsIn q (p ∷ qs)) (up : IsAscending (p ∷ qs)) where
       trail : IsTrail p qs
       trail = record {
-        cut = are p (inl refl);
-        cuts = λ c h. are c (inr h);
+        here = are p (inl refl);
+        ahead = λ c h. are c (inr h);
         ascending = up;
         above = λ c h l. elim (all c h) [ inl e ↦ clash (lt p c) l (ap (λ w. lt w c) e ∙ lt_irrefl c) | inr k ↦ k ];
       }
@@ -178,7 +178,7 @@ module _ (x y : PlainPoint) (same : length x ≡ length y) where
           let start : IsCut rows x y nought = record { place = start_place; why = inl refl } in
           elim (all nought start) [
             | inl e ↦ e
-            | inr k ↦ all_some (λ s. lt p s ≡ true) (λ s. s ≡ nought) (p ≡ nought) (λ s i j. clash (lt p nought) (ap (λ w. lt p w) (sym j) ∙ i) trail.cut.place.from) qs up.0 k
+            | inr k ↦ all_some (λ s. lt p s ≡ true) (λ s. s ≡ nought) (p ≡ nought) (λ s i j. clash (lt p nought) (ap (λ w. lt p w) (sym j) ∙ i) (trail.here).place.from) qs up.0 k
           ]
 
       -- with the middles put in they are the check points
@@ -188,7 +188,7 @@ module _ (x y : PlainPoint) (same : length x ≡ length y) where
           λ h. by_bool (lt p c)
               (λ l. inr (behind-all p qs trail c h l))
               (λ l. inl (lt_antisymm p c l (ap (λ w. lt c w) begins ∙ not_before c h))),
-          λ h. elim h [ inl e ↦ subst (λ (w : Number). IsCheckPoint rows x y w) e (inl trail.cut) | inr k ↦ behind-are p qs trail c k ],
+          λ h. elim h [ inl e ↦ subst (λ (w : Number). IsCheckPoint rows x y w) e (inl trail.here) | inr k ↦ behind-are p qs trail c k ],
         );
         ascending = behind-ascending p qs trail;
       }

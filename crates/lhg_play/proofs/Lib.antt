@@ -1,5 +1,5 @@
+pub mod CallSteps
 pub mod CutPlaces
-pub mod CutSteps
 pub mod Inserting
 pub mod JoinSteps
 pub mod TurnPlaces

@@ -113,7 +113,7 @@ module _ (r : PlainRow) (x y : PlainPoint) (e : length x ≡ length y) where
       (λ f.
       let h : is_nought (slope r x y) ≡ false = ap is_nought (sym is) ∙ f in
       let start = marked_value-value frac_arithmetic nought r.coefs x in
-      let at : quot (sub r.bound (marked_value frac_arithmetic nought r.coefs x).value) v ≡ quot gap (slope r x y) =
+      let here : quot (sub r.bound (marked_value frac_arithmetic nought r.coefs x).value) v ≡ quot gap (slope r x y) =
       ap (λ w. quot (sub r.bound w) v) start ∙ ap (λ w. quot w v) (sub_is r.bound (value_at r x)) ∙ ap (quot gap) is in
       let there : IsTurnPlace r x y (kept_place (quot gap (slope r x y))).value = kept-place (quot gap (slope r x y)) (record { moves = moving h; tight = level_tight h }) in
-      rw f (subst (λ w. IsTurnPlace r x y (kept_place w).value) (sym at) there))
+      rw f (subst (λ w. IsTurnPlace r x y (kept_place w).value) (sym here) there))

@@ -60,7 +60,7 @@ pub region_is : (a : PlainPlant) (region : PlainRegion) (s : PlainState) → IsR
 region_is a region s inside fits = (
   λ h. (in_some_is (get_or region s.loc []) s.at).0 h.some,
   λ h. let k = (in_some_is (get_or region s.loc []) s.at).1 h in
-  record { state = some_inside a s.loc (get_or region s.loc []) s.at fits (inside.inside s.loc) k; some = k },
+      record { state = some_inside a s.loc (get_or region s.loc []) s.at fits (inside.inside s.loc) k; some = k },
 )
 
 -- the guard of a switch that leaves the location holds at a state where its pieces do

@@ -65,11 +65,8 @@ pub(crate) fn follow(
             Sight::Outside => return Ok(stopped(last)),
             Sight::Inside => {}
             Sight::Guarded { switch, at } => {
-                last = Some(Stop {
-                    place: *place,
-                    at,
-                    switch,
-                });
+                let place = *place;
+                last = Some(Stop { place, at, switch });
             }
         }
     }
