@@ -31,7 +31,7 @@ module _ (a : PlainPlant) (c : PlainController) (valid : IsValid a c) (proper : 
   taken_by : (side : Side) (e : ℕ) (z : PlainState) → HasSide a e side → StaysBy side a (InRegion a c.region) e z → MayTake a c z e
   taken_by Ctl e z h k = inl h
   taken_by Env e z h k = absurd k
-  taken_by Pick e z h k = inr (h, picked_found a c.region proper inside e z k.0 k.1 k.2)
+  taken_by Pick e z h k = let f = picked_found a c.region proper inside e z k.0 k.1 k.2 in inr (h, f.0, f.1)
 
   -- so does one whose guard holds
   pub guard_taken : (e : ℕ) (z : PlainState) → InGuard a c.guards e z → MayTake a c z e

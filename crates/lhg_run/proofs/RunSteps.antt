@@ -53,7 +53,7 @@ module _ (a : PlainPlant) (c : PlainController) where
       → RunsFrom a c r (take k entries) trace last → slice_get entries k ≡ Some entry → ¬ IsLegalEntry a last entry → IsIllegalFrom a c r entries k
   runs-illegal k r [] trace last entry h is not = absurd (nothing k is)
     where
-      nothing : (k : ℕ) → slice_get {A = PlainEntry} [] k ≡ Some entry → ⊥
+      nothing : (k : ℕ) → slice_get [] k ≡ Some entry → ⊥
       nothing k e = cc
   runs-illegal zero r (e ∷ entries) trace last entry h is not =
       λ legal. not (subst (λ w. IsLegalEntry a w entry) (sym h.1) (subst (IsLegalEntry a r) (let same : e ≡ entry = cc in same) legal))

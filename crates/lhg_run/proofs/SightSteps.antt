@@ -1,5 +1,5 @@
 -- What the tests of rows tell of regions and guards, and which numbers they form.
-use Rattle.std.proofs.Common.{◌≡◌, ◌↔◌, ◌⊎◌, ℕ, zero, suc, ◌<◌, List, [], ◌∷◌, ◌++◌, length, map, IsSomeAnd, slice_get, get_or, Bool, true, false, cond, nat_eq, ◌||◌, refl, sym, ap, ◌∙◌, subst, arith}
+use Rattle.std.proofs.Common.{◌≡◌, ◌↔◌, ◌⊎◌, inl, inr, ◌+◌, ℕ, zero, suc, ◌<◌, List, [], ◌∷◌, ◌++◌, length, map, IsSomeAnd, slice_get, get_or, Bool, true, false, cond, nat_eq, ◌||◌, refl, sym, ap, ◌∙◌, subst, arith}
 use Rattle.std.proofs.lemmas.Bool.{or_left, or_right, eq-eqb}
 use Rattle.std.proofs.lemmas.List.{get_or-map, length-map}
 use Rattle.std.specs.Global.{Vec}
@@ -7,6 +7,7 @@ use Rattle.lhg_math.specs.Number.{Number}
 use Rattle.lhg_math.specs.Tests.{AllOf, by_bool, false_true}
 use Rattle.lhg_num.specs.FracArithmetic.{frac_arithmetic}
 use Rattle.lhg_num.specs.Marked.{Marked}
+use Rattle.lhg_row.specs.Decisions.{nat_decided}
 use Rattle.lhg_row.specs.MarkedTests.{marked_all}
 use Rattle.lhg_row.specs.Piece.{PlainPiece, InSome, in_some}
 use Rattle.lhg_row.specs.PieceLemmas.{in_some_is}
@@ -19,7 +20,7 @@ use Rattle.lhg_play.specs.Cut.{point_at}
 use Rattle.lhg_plant.specs.Plant.{PlainPlant, PlainSwitch}
 use Rattle.lhg_plant.specs.State.{PlainState, IsState}
 use Rattle.lhg_plant.specs.Inside.{IsRegionInside}
-use Rattle.lhg_plant.specs.Region.{PlainRegion, PlainGuards, InRegion, InGuard}
+use Rattle.lhg_plant.specs.Region.{PlainRegion, PlainGuards, InRegion, InGuard, InSomeGuard}
 use Rattle.lhg_plant.specs.Controller.{PlainController}
 use Rattle.lhg_plant.specs.Run.{guard_rows, run_rows}
 use Rattle.lhg_plant.proofs.InsideStates.{some_inside}
@@ -122,3 +123,12 @@ module _ (a : PlainPlant) (c : PlainController) (s : PlainState) (y : PlainPoint
       or_right _ _ (ap (λ w. (piece_truth frac_arithmetic (run_rows a c s.loc) w).wide) (sym e)
       ∙ all-append_wide (λ r. truth frac_arithmetic r z) (rows_of (get_or c.region s.loc [])) (guard_rows a.switches c.guards s.loc)
       ∙ or_right _ _ h)
+
+-- ---- guards
+-- none of the guards holds
+pub none-at : (a : PlainPlant) (guards : PlainGuards) (s : PlainState) → ((d : ℕ) → d < length a.switches → ¬ InGuard a guards d s) → ¬ InSomeGuard a guards s
+none-at a guards s none h = none h.0 (there_short a.switches h.0 (λ w. w.from ≡ s.loc) h.1.leaves) h.1
+
+-- what holds below a number and at it holds below the next
+pub below-more : (P : ℕ → Type 0) (e : ℕ) → ((d : ℕ) → d < e → P d) → P e → (d : ℕ) → d < e + 1 → P d
+below-more P e f h d l = elim (nat_decided d e) [ inl same ↦ subst P (sym same) h | inr other ↦ f d (omega arith) ]

@@ -166,8 +166,8 @@ module _ (a : PlainPlant) (c : PlainController) (s : PlainState) (y : PlainPoint
               ]
 
           some_by : (last : Option Stop) → IsLastOf a c s y before last → IsSome last
-          some_by None k = none_guarded k
-          some_by (Some stop) k = tt
+          some_by None k = absurd (none_guarded k)
+          some_by (Some stop) k = refl
 
           pub is_stopped : IsSome last
           is_stopped = some_by last h.last_of
@@ -187,4 +187,4 @@ split_at places i p e h = sym (take-append-drop i places) ∙ ap (λ w. take i p
 
 -- one place more
 pub take-more : (places : List Number) (i : ℕ) (p : Number) → p ≡ get_or places i p → i < length places → take (i + 1) places ≡ take i places ++ p ∷ []
-take-more places i p e h = ap (λ k. take k places) (add-one {i}) ∙ take-suc places i p h ∙ ap (λ w. take i places ++ w ∷ []) (sym e)
+take-more places i p e h = ap (λ k. take k places) (add-one {x = i}) ∙ take-suc places i p h ∙ ap (λ w. take i places ++ w ∷ []) (sym e)

@@ -1,5 +1,6 @@
 // A flow entry.
 ghost use Rattle.std.specs.Prelude.{◌≡◌, ◌<◌, ◌++◌, ◌∷◌, [], true, length};
+ghost use Rattle.lhg_math.specs.Number.{lt, nought};
 ghost use Rattle.lhg_num.specs.FracArithmetic.{frac_arithmetic};
 ghost use Rattle.lhg_num.specs.Halting.{IsHaltedByMemory, IsHaltedByWide};
 ghost use Rattle.lhg_num.specs.Marked.{done, valued, marked_mul};
@@ -117,14 +118,20 @@ fn flow_to(alloc: Global, time: &Frac, stop: &Stop) -> Result<Vec<Step>, Halt>
     ensures { IsHaltedByWide result (valued (λ part. steps_to part stop.now) (marked_mul frac_arithmetic stop.now.place time.now)) (λ v. plain_steps v.items) }
 {
     let mut steps = Vec::new(alloc);
-    if stop.place.sign() == Ordering::Greater {
-        let part = stop.place.mul(time)?;
-        steps.push(Step::Flow {
-            time: part,
-            to: copy_point(alloc, &stop.at)?,
-        })?;
+    if !is_above_0(&stop.place) {
+        return Ok(steps);
     }
+    let part = stop.place.mul(time)?;
+    let to = copy_point(alloc, &stop.at)?;
+    steps.push(Step::Flow { time: part, to })?;
     Ok(steps)
+}
+
+#[tactic(auto, using(lhg_plant::proofs::LegalSteps::greater_sign))]
+fn is_above_0(x: &Frac) -> bool
+    ensures { result ≡ lt nought x.now }
+{
+    x.sign() == Ordering::Greater
 }
 
 // The controller gives the result at once.

@@ -12,8 +12,6 @@ mod running;
 mod runs;
 mod sights;
 mod stops;
-#[cfg(test)]
-mod tests;
 mod ways;
 
 pub use entries::Entry;

@@ -1,10 +1,10 @@
 // The rows at which a run looks in a location.
-ghost use Rattle.std.specs.Prelude.{◌≡◌, ◌<◌, ◌++◌, length};
+ghost use Rattle.std.specs.Prelude.{◌≡◌, ◌<◌, ◌+◌, ◌++◌, length, map, drop, OnOk, IfErr};
 ghost use Rattle.lhg_num.specs.Halting.{IsHaltedByMemory};
 ghost use Rattle.lhg_num.specs.Marked.{done};
 ghost use Rattle.lhg_motion.specs.CheckPoint.{rows_of};
 ghost use Rattle.lhg_plant.specs.Run.{guard_rows, run_rows};
-ghost use Rattle.lhg_plant.specs.Views.{plain_plant};
+ghost use Rattle.lhg_plant.specs.Views.{plain_plant, plain_switch};
 ghost use Rattle.lhg_union.specs.PolyLists.{lines_of};
 ghost use Rattle.lhg_union.specs.Regions.{plain_region};
 ghost use Rattle.lhg_ctl.specs.Conditions.{IsControllerOf};
@@ -47,11 +47,29 @@ fn append_guards(
     ensures { IsHaltedByMemory result (done (rows.old.items ++ guard_rows (plain_plant plant.now).switches (plain_region guards.now) loc)) (λ _. rows.new.items) }
 {
     for e in 0..plant.switches.len() {
-        if plant.switches[e].from == loc {
-            append_pieces(alloc, rows, &guards[e])?;
-        }
+        append_guard(alloc, rows, plant, guards, loc, e)?;
     }
     Ok(())
+}
+
+// Those of one guard, where its switch leaves the location, so that those of the guards behind it are left.
+fn append_guard(
+    alloc: Global,
+    rows: &mut Vec<Row<Frac>>,
+    plant: &Plant,
+    guards: &[Vec<Poly<Frac>>],
+    loc: u32,
+    e: usize,
+) -> Result<(), Halt>
+    requires there { e < length plant.now.switches.items }
+    requires many { length guards.now ≡ length plant.now.switches.items }
+    ensures rows { OnOk result (rows.new.items ++ guard_rows (map plain_switch (drop (e + 1) plant.now.switches.items)) (plain_region (drop (e + 1) guards.now)) loc ≡ rows.old.items ++ guard_rows (map plain_switch (drop e plant.now.switches.items)) (plain_region (drop e guards.now)) loc) }
+    ensures err { IfErr result (λ h. h ≡ Halt.Memory) }
+{
+    if plant.switches[e].from != loc {
+        return Ok(());
+    }
+    append_pieces(alloc, rows, &guards[e])
 }
 
 // Those of the pieces of a list.

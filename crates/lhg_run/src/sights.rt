@@ -5,7 +5,6 @@ ghost use Rattle.lhg_math.specs.Places.{IsPlace};
 ghost use Rattle.lhg_math.specs.Tests.{AllOf};
 ghost use Rattle.lhg_num.specs.FracArithmetic.{frac_arithmetic};
 ghost use Rattle.lhg_num.specs.Halting.{IsWideBy};
-ghost use Rattle.lhg_row.specs.Piece.{in_some};
 ghost use Rattle.lhg_row.specs.Truths.{piece_truth, some_truth};
 ghost use Rattle.lhg_union.specs.PolyLists.{lines_of, AllVars};
 ghost use Rattle.lhg_union.specs.Regions.{plain_region};
@@ -112,8 +111,7 @@ fn has_guard(
 // Whether the point is in some piece of the list.
 fn some_has(pieces: &[Poly<Frac>], at: &Point<Frac>) -> Result<bool, Wide>
     requires { AllVars (length at.now) pieces.now }
-    ensures calculus { IsWideBy result (some_truth frac_arithmetic (lines_of pieces.now) at.now) (λ b. b) }
-    ensures exact { IfOk result (λ b. b ≡ in_some (lines_of pieces.now) at.now) }
+    ensures { IsWideBy result (some_truth frac_arithmetic (lines_of pieces.now) at.now) (λ b. b) }
 {
     for piece in pieces {
         let here = piece.has(at)?;
