@@ -1,12 +1,15 @@
 -- What the tests of rows tell of regions and guards, and which numbers they form.
-use Rattle.std.proofs.Common.{◌≡◌, ◌↔◌, ◌⊎◌, inl, inr, ◌+◌, ℕ, zero, suc, ◌<◌, List, [], ◌∷◌, ◌++◌, length, map, IsSomeAnd, slice_get, get_or, Bool, true, false, cond, nat_eq, ◌||◌, refl, sym, ap, ◌∙◌, subst, arith}
+use Rattle.std.proofs.Common.{◌≡◌, ◌↔◌, ◌⊎◌, inl, inr, ◌+◌, ℕ, zero, suc, ◌<◌, List, [], ◌∷◌, ◌++◌, length, map, IsSomeAnd, slice_get, get_or, Bool, true, false, cond, nat_eq, ◌||◌, Option, Some, None, Result, Ok, Err, refl, sym, ap, ◌∙◌, subst, arith}
 use Rattle.std.proofs.lemmas.Bool.{or_left, or_right, eq-eqb}
 use Rattle.std.proofs.lemmas.List.{get_or-map, length-map}
 use Rattle.std.specs.Global.{Vec}
+use Rattle.std.specs.Prelude.{IfOk, IfErr, IsTrue}
 use Rattle.lhg_math.specs.Number.{Number}
 use Rattle.lhg_math.specs.Tests.{AllOf, by_bool, false_true}
 use Rattle.lhg_num.specs.FracArithmetic.{frac_arithmetic}
+use Rattle.lhg_num.specs.Halting.{IsWideBy}
 use Rattle.lhg_num.specs.Marked.{Marked}
+use Rattle.lhg_num.specs.declared.refusals.Wide.{Wide}
 use Rattle.lhg_row.specs.Decisions.{nat_decided}
 use Rattle.lhg_row.specs.MarkedTests.{marked_all}
 use Rattle.lhg_row.specs.Piece.{PlainPiece, InSome, in_some}
@@ -14,19 +17,21 @@ use Rattle.lhg_row.specs.PieceLemmas.{in_some_is}
 use Rattle.lhg_row.specs.Row.{PlainPoint}
 use Rattle.lhg_row.specs.System.{PlainSystem}
 use Rattle.lhg_row.specs.Values.{truth}
-use Rattle.lhg_row.specs.Truths.{piece_truth, some_truth}
+use Rattle.lhg_row.specs.Truths.{piece_truth, some_truth, some_truth-value}
 use Rattle.lhg_motion.specs.CheckPoint.{rows_of}
+use Rattle.lhg_motion.specs.Segment.{along}
 use Rattle.lhg_play.specs.Cut.{point_at}
 use Rattle.lhg_plant.specs.Plant.{PlainPlant, PlainSwitch}
 use Rattle.lhg_plant.specs.State.{PlainState, IsState}
 use Rattle.lhg_plant.specs.Inside.{IsRegionInside}
 use Rattle.lhg_plant.specs.Region.{PlainRegion, PlainGuards, InRegion, InGuard, InSomeGuard}
 use Rattle.lhg_plant.specs.Controller.{PlainController}
-use Rattle.lhg_plant.specs.Run.{guard_rows, run_rows}
+use Rattle.lhg_plant.specs.Run.{guard_rows, run_rows, state_along}
 use Rattle.lhg_plant.proofs.InsideStates.{some_inside}
 use Rattle.lhg_union.specs.PolyLists.{lines_of, AllVars}
 use Rattle.lhg_union.specs.Regions.{polys_of, polys_at, plain_region}
 use Rattle.lhg_run.specs.Numbers.{sight}
+use Rattle.lhg_run.specs.Seen.{IsGuardAt}
 
 -- ---- lists
 -- the pieces of a region at a place are the rows of the list there
@@ -132,3 +137,46 @@ none-at a guards s none h = none h.0 (there_short a.switches h.0 (λ w. w.from �
 -- what holds below a number and at it holds below the next
 pub below-more : (P : ℕ → Type 0) (e : ℕ) → ((d : ℕ) → d < e → P d) → P e → (d : ℕ) → d < e + 1 → P d
 below-more P e f h d l = elim (nat_decided d e) [ inl same ↦ subst P (sym same) h | inr other ↦ f d (omega arith) ]
+
+-- ---- what is seen
+module _ (a : PlainPlant) (guards : PlainGuards) (e : ℕ) (s : PlainState) (state : IsState a s) (leaves : IsSomeAnd (slice_get a.switches e) (λ w. w.from ≡ s.loc)) (ps : List PlainPiece) (is : ps ≡ get_or guards e []) where
+  -- a guard's test
+  pub guard-exact : (r : Result Bool Wide) → IsWideBy r (some_truth frac_arithmetic ps s.at) (λ b. b) → IfOk r (λ b. IsTrue b ↔ InGuard a guards e s)
+  guard-exact (Ok b) h =
+      let told : b ≡ in_some (get_or guards e []) s.at = h ∙ some_truth-value frac_arithmetic ps s.at ∙ ap (λ qs. in_some qs s.at) is in
+      (λ t. (guard_is a guards e s state leaves).1 (sym told ∙ t), λ g. told ∙ (guard_is a guards e s state leaves).0 g)
+  guard-exact (Err w) h = tt
+
+  -- its numbers
+  pub guard-refused : (r : Result Bool Wide) → IsWideBy r (some_truth frac_arithmetic ps s.at) (λ b. b) → IfErr r (λ _. (piece_truth frac_arithmetic (guard_rows a.switches guards s.loc) s.at).wide ≡ true)
+  guard-refused (Ok b) h = tt
+  guard-refused (Err w) h = guard-wide a.switches guards s.loc e s.at leaves (ap (λ qs. (some_truth frac_arithmetic qs s.at).wide) (sym is) ∙ h)
+
+module _ (a : PlainPlant) (c : PlainController) (s : PlainState) (y : PlainPoint) (p : Number) (z : PlainPoint) (z_is : z ≡ along s.at y p) where
+  -- the region's test
+  module _ (inside : IsRegionInside a c.region) (fits : length (along s.at y p) ≡ length a.vars) (ps : List PlainPiece) (is : ps ≡ get_or c.region s.loc []) (b : Bool) (told : b ≡ in_some ps z) where
+    truth-is : b ≡ in_some (get_or c.region s.loc []) (along s.at y p)
+    truth-is = told ∙ ap (λ qs. in_some qs z) is ∙ ap (in_some (get_or c.region s.loc [])) z_is
+
+    pub seen-outside : b ≡ false → ¬ InRegion a c.region (state_along s y p)
+    seen-outside e h = false_true (sym e ∙ truth-is ∙ (region_is a c.region (state_along s y p) inside fits).0 h)
+
+    pub seen-inside : b ≡ true → InRegion a c.region (state_along s y p)
+    seen-inside e = (region_is a c.region (state_along s y p) inside fits).1 (sym truth-is ∙ e)
+
+  -- the point is one of a state
+  pub seen-state : IsState a (state_along s y p) → IsState a (record { loc = s.loc; at = z })
+  seen-state h = subst (λ (w : PlainPoint). IsState a (record { loc = s.loc; at = w })) (sym z_is) h
+
+  -- what is told of the guards at the point
+  pub seen-guards : (o : Option ℕ) → IsGuardAt a c.guards (record { loc = s.loc; at = z }) o → IsGuardAt a c.guards (state_along s y p) o
+  seen-guards o h = subst (λ (w : PlainPoint). IsGuardAt a c.guards (record { loc = s.loc; at = w }) o) z_is h
+
+-- ---- the start
+module _ (a : PlainPlant) (region : PlainRegion) (s : PlainState) (inside : IsRegionInside a region) (fits : length s.at ≡ length a.vars) (ps : List PlainPiece) (is : ps ≡ get_or region s.loc []) (b : Bool) (told : b ≡ in_some ps s.at) where
+  -- the region's test tells whether the start is in it
+  pub start-outside : b ≡ false → ¬ InRegion a region s
+  start-outside e h = false_true (sym e ∙ told ∙ ap (λ qs. in_some qs s.at) is ∙ (region_is a region s inside fits).0 h)
+
+  pub start-inside : b ≡ true → InRegion a region s
+  start-inside e = (region_is a region s inside fits).1 (sym (told ∙ ap (λ qs. in_some qs s.at) is) ∙ e)

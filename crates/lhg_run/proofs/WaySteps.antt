@@ -1,12 +1,13 @@
 -- Steps of the search for the place at which a flow is stopped.
 use Rattle.std.proofs.Common.{◌≡◌, ◌⊎◌, inl, inr, ℕ, ◌+◌, ◌<◌, ◌≤◌, List, [], ◌∷◌, ◌++◌, length, take, drop, get_or, add-one, Option, Some, None, true, false, refl, sym, ap, ◌∙◌, subst, arith}
 use Rattle.std.specs.Option.{IsSome}
+use Rattle.std.specs.Prelude.{IfSome}
 use Rattle.std.proofs.lemmas.List.{take-append-drop, take_all}
 use Rattle.std.proofs.Math.Seq.{take-suc}
 use Rattle.lhg_math.specs.Number.{Number, lt}
 use Rattle.lhg_math.specs.NumberOrder.{lt_irrefl, lt_asym, lt-le_trans}
 use Rattle.lhg_math.specs.Places.{IsPlace}
-use Rattle.lhg_math.specs.Tests.{AllOf, by_bool}
+use Rattle.lhg_math.specs.Tests.{AllOf, by_bool, false_true}
 use Rattle.lhg_row.specs.Decisions.{clash}
 use Rattle.lhg_row.specs.Members.{SomeOf, all_some, some_left, some_right, all-append, all_split}
 use Rattle.lhg_row.specs.Row.{PlainPoint}
@@ -21,8 +22,12 @@ use Rattle.lhg_plant.specs.Region.{InRegion, InSomeGuard}
 use Rattle.lhg_plant.specs.Controller.{PlainController, IsValid}
 use Rattle.lhg_plant.specs.Run.{run_rows, IsCheckOf, state_along, PassesWhole, IsFirstOutside, IsFirstGuard, StopsAt}
 use Rattle.lhg_plant.proofs.RunAnswers.{flow_answers}
-use Rattle.lhg_run.specs.Seen.{IsLastGuard, IsLastOf}
+use Rattle.lhg_run.specs.Seen.{IsWay, IsSight, is_outside, later, IsLastGuard, IsLastOf}
+use Rattle.lhg_run.specs.declared.sights.Sight.{Sight}
+use Rattle.lhg_run.specs.declared.sights.Sight.TheVariants.{Outside, Inside, Guarded}
 use Rattle.lhg_run.specs.declared.ways.Stop.{Stop}
+use Rattle.lhg_run.specs.declared.ways.Way.{Way}
+use Rattle.lhg_run.specs.declared.ways.Way.TheVariants.{Stopped}
 
 -- in an ascending list what stands in front of a place is below it, and what stands behind it above
 in_front : (before : List Number) (p : Number) (after : List Number) → IsAscending (before ++ p ∷ after) → AllOf (λ q. lt q p ≡ true) before
@@ -46,16 +51,16 @@ weaker P Q f (x ∷ xs) h = (f x h.0, weaker P Q f xs h.1)
 
 module _ (a : PlainPlant) (c : PlainController) (s : PlainState) (y : PlainPoint) where
   -- the region holds at the place
-  abbrev Inside : Number → Type 0
-  Inside q = InRegion a c.region (state_along s y q)
+  abbrev IsIn : Number → Type 0
+  IsIn q = InRegion a c.region (state_along s y q)
 
   -- some guard holds there
-  abbrev Guarded : Number → Type 0
-  Guarded q = InSomeGuard a c.guards (state_along s y q)
+  abbrev HasGuard : Number → Type 0
+  HasGuard q = InSomeGuard a c.guards (state_along s y q)
 
   -- the region holds at all places so far, and the last of them with a guard is known
   pub record IsFollowed (before : List Number) (last : Option Stop) : Type 0 where
-    pub inside : AllOf Inside before
+    pub inside : AllOf IsIn before
     pub last_of : IsLastOf a c s y before last
 
   -- at the start there is none
@@ -63,33 +68,46 @@ module _ (a : PlainPlant) (c : PlainController) (s : PlainState) (y : PlainPoint
   followed-start = record { inside = tt; last_of = tt }
 
   -- a place without a guard
-  pub followed-inside : (before : List Number) (p : Number) (last : Option Stop) → IsFollowed before last → Inside p → ¬ Guarded p → IsFollowed (before ++ p ∷ []) last
-  followed-inside before p last h inside none = record { inside = all-append Inside before (p ∷ []) h.inside (inside, tt); last_of = more last h.last_of }
+  pub followed-inside : (before : List Number) (p : Number) (last : Option Stop) → IsFollowed before last → IsIn p → ¬ HasGuard p → IsFollowed (before ++ p ∷ []) last
+  followed-inside before p last h inside none = record { inside = all-append IsIn before (p ∷ []) h.inside (inside, tt); last_of = more last h.last_of }
     where
       more : (last : Option Stop) → IsLastOf a c s y before last → IsLastOf a c s y (before ++ p ∷ []) last
-      more None k = all-append (λ q. ¬ Guarded q) before (p ∷ []) k (none, tt)
+      more None k = all-append (λ q. ¬ HasGuard q) before (p ∷ []) k (none, tt)
       more (Some stop) k = record {
         there = some_left (λ q. q ≡ stop.place) before (p ∷ []) k.there;
         guard = k.guard;
         point = k.point;
-        last = all-append (λ q. lt stop.place q ≡ true → ¬ Guarded q) before (p ∷ []) k.last ((λ l. none), tt);
+        last = all-append (λ q. lt stop.place q ≡ true → ¬ HasGuard q) before (p ∷ []) k.last ((λ l. none), tt);
       }
 
   -- a place with a guard
   pub followed-guarded : (before : List Number) (p : Number) (last : Option Stop) (stop : Stop) → IsFollowed before last → AllOf (λ q. lt q p ≡ true) before
-      → Inside p → stop.place ≡ p → IsFirstGuard a c.guards (state_along s y p) stop.switch → stop.at ≡ along s.at y p
+      → IsIn p → stop.place ≡ p → IsFirstGuard a c.guards (state_along s y p) stop.switch → stop.at ≡ along s.at y p
       → IsFollowed (before ++ p ∷ []) (Some stop)
   followed-guarded before p last stop h below inside e guard point = record {
-    inside = all-append Inside before (p ∷ []) h.inside (inside, tt);
+    inside = all-append IsIn before (p ∷ []) h.inside (inside, tt);
     last_of = record {
       there = some_right (λ q. q ≡ stop.place) before (p ∷ []) (inl (sym e));
       guard = subst (λ w. IsFirstGuard a c.guards (state_along s y w) stop.switch) (sym e) guard;
       point = point ∙ ap (λ w. along s.at y w) (sym e);
-      last = all-append (λ q. lt stop.place q ≡ true → ¬ Guarded q) before (p ∷ [])
-          (weaker (λ q. lt q p ≡ true) (λ q. lt stop.place q ≡ true → ¬ Guarded q) (λ q k l. clash (lt p q) (ap (λ w. lt w q) (sym e) ∙ l) (lt_asym q p k)) before below)
+      last = all-append (λ q. lt stop.place q ≡ true → ¬ HasGuard q) before (p ∷ [])
+          (weaker (λ q. lt q p ≡ true) (λ q. lt stop.place q ≡ true → ¬ HasGuard q) (λ q k l. clash (lt p q) (ap (λ w. lt w q) (sym e) ∙ l) (lt_asym q p k)) before below)
           ((λ l. clash (lt p p) (ap (λ w. lt w p) (sym e) ∙ l) (lt_irrefl p)), tt);
     };
   }
+
+  -- one place more
+  pub followed-seen : (before : List Number) (p : Number) (last : Option Stop) (sight : Sight) → IsFollowed before last → AllOf (λ q. lt q p ≡ true) before
+      → IsSight a c s y p sight → is_outside sight ≡ false → IsFollowed (before ++ p ∷ []) (later last p sight)
+  followed-seen before p last Outside h below k e = false_true (sym e)
+  followed-seen before p last Inside h below k e = followed-inside before p last h k.0 k.1
+  followed-seen before p last (Guarded e at) h below k f = followed-guarded before p last (record { place = p; at = at; switch = e }) h below k.0 refl k.1 k.2
+
+  -- a place outside
+  pub seen-out : (p : Number) (sight : Sight) → IsSight a c s y p sight → is_outside sight ≡ true → ¬ IsIn p
+  seen-out p Outside k e = k
+  seen-out p Inside k e = false_true e
+  seen-out p (Guarded d at) k e = false_true e
 
   module _ (places : List Number) (checks : AreChecks (run_rows a c s.loc) s.at y places) where
     -- each of the places is a check point
@@ -102,7 +120,7 @@ module _ (a : PlainPlant) (c : PlainController) (s : PlainState) (y : PlainPoint
 
     -- where all are passed the flow passes whole
     pub passes : (last : Option Stop) → IsFollowed places last → PassesWhole a c s y
-    passes last h q check = all_some Inside (λ w. w ≡ q) (Inside q) (λ w i e. subst Inside e i) places h.inside ((checks.all q).0 check)
+    passes last h q check = all_some IsIn (λ w. w ≡ q) (IsIn q) (λ w i e. subst IsIn e i) places h.inside ((checks.all q).0 check)
 
     module _ (before : List Number) (p : Number) (after : List Number) (is : places ≡ before ++ p ∷ after) where
       up : IsAscending (before ++ p ∷ after)
@@ -131,13 +149,13 @@ module _ (a : PlainPlant) (c : PlainController) (s : PlainState) (y : PlainPoint
             ]
           ]
 
-      module _ (last : Option Stop) (h : IsFollowed before last) (out : ¬ Inside p) where
+      module _ (last : Option Stop) (h : IsFollowed before last) (out : ¬ IsIn p) where
         -- p is the first check point outside
         first : IsFirstOutside a c s y p
         first = record {
           check = listed_check p here_listed;
           outside = out;
-          before = λ q check less. all_some Inside (λ w. w ≡ q) (Inside q) (λ w i e. subst Inside e i) before h.inside (before_listed q check less);
+          before = λ q check less. all_some IsIn (λ w. w ≡ q) (IsIn q) (λ w i e. subst IsIn e i) before h.inside (before_listed q check less);
         }
 
         -- the flow is stopped at the last place with a guard
@@ -148,20 +166,20 @@ module _ (a : PlainPlant) (c : PlainController) (s : PlainState) (y : PlainPoint
           check = listed_check stop.place (front_listed stop.place k.there);
           before = all_some (λ w. lt w p ≡ true) (λ w. w ≡ stop.place) (lt stop.place p ≡ true) (λ w i e. ap (λ v. lt v p) (sym e) ∙ i) before below k.there;
           guard = k.guard;
-          last = λ q d check more less guard. all_some (λ w. lt stop.place w ≡ true → ¬ Guarded w) (λ w. w ≡ q) ⊥
-              (λ w i e. i (ap (λ v. lt stop.place v) e ∙ more) (subst Guarded (sym e) (d, guard))) before k.last (before_listed q check less);
+          last = λ q d check more less guard. all_some (λ w. lt stop.place w ≡ true → ¬ HasGuard w) (λ w. w ≡ q) ⊥
+              (λ w i e. i (ap (λ v. lt stop.place v) e ∙ more) (subst HasGuard (sym e) (d, guard))) before k.last (before_listed q check less);
         }
 
         -- there is one, for a valid controller from a state of the region
         module _ (valid : IsValid a c) (t : Number) (flow : LegalFlow a s t y) (start : InRegion a c.region s) where
-          none_guarded : AllOf (λ q. ¬ Guarded q) before → ⊥
+          none_guarded : AllOf (λ q. ¬ HasGuard q) before → ⊥
           none_guarded none =
               elim (flow_answers a c valid s t y flow start) [
                 | inl whole ↦ out (whole p (listed_check p here_listed))
                 | inr stop ↦
                     (let k = stop.2 in
                     let late : lt p k.end_place ≡ false = by_bool (lt p k.end_place) (λ e. absurd (out (k.first.before p (listed_check p here_listed) e))) (λ e. e) in
-                    all_some (λ q. ¬ Guarded q) (λ w. w ≡ stop.0) ⊥ (λ w i e. i (subst Guarded (sym e) (stop.1, k.guard.holds))) before none
+                    all_some (λ q. ¬ HasGuard q) (λ w. w ≡ stop.0) ⊥ (λ w i e. i (subst HasGuard (sym e) (stop.1, k.guard.holds))) before none
                     (before_listed stop.0 k.check (lt-le_trans stop.0 k.end_place p k.before late)))
               ]
 
@@ -187,4 +205,10 @@ split_at places i p e h = sym (take-append-drop i places) ∙ ap (λ w. take i p
 
 -- one place more
 pub take-more : (places : List Number) (i : ℕ) (p : Number) → p ≡ get_or places i p → i < length places → take (i + 1) places ≡ take i places ++ p ∷ []
-take-more places i p e h = ap (λ k. take k places) (add-one {x = i}) ∙ take-suc places i p h ∙ ap (λ w. take i places ++ w ∷ []) (sym e)
+take-more places i p e h = ap (λ k. take k places) (add-one i) ∙ take-suc places i p h ∙ ap (λ w. take i places ++ w ∷ []) (sym e)
+
+-- the way that a stop tells
+pub way-stopped : (a : PlainPlant) (c : PlainController) (s : PlainState) (y : PlainPoint) (last : Option Stop) (way : Way) → IsSome last → IfSome last (λ stop. way ≡ Stopped stop)
+    → ((stop : Stop) → last ≡ Some stop → StopsAt a c s y stop.place stop.switch × (stop.at ≡ along s.at y stop.place)) → IsWay a c s y way
+way-stopped a c s y None way h e f = false_true h
+way-stopped a c s y (Some stop) way h e f = subst (IsWay a c s y) (sym e) (f stop refl)

@@ -41,6 +41,18 @@ IsSight a c s y p Outside = ¬ InRegion a c.region (state_along s y p)
 IsSight a c s y p Inside = InRegion a c.region (state_along s y p) × ¬ InSomeGuard a c.guards (state_along s y p)
 IsSight a c s y p (Guarded e at) = InRegion a c.region (state_along s y p) × IsFirstGuard a c.guards (state_along s y p) e × (at ≡ along s.at y p)
 
+-- the region does not hold
+abbrev pub is_outside : Sight → Bool
+is_outside Outside = true
+is_outside Inside = false
+is_outside (Guarded e at) = false
+
+-- the stop so far, or a later one where a guard holds at the place p
+abbrev pub later : Option Stop → Number → Sight → Option Stop
+later last p Outside = last
+later last p Inside = last
+later last p (Guarded e at) = Some (record { place = p; at = at; switch = e })
+
 -- the point is that of the last of the places at which a guard holds, with the first switch whose guard holds there
 pub record IsLastGuard (a : PlainPlant) (c : PlainController) (s : PlainState) (y : PlainPoint) (places : List Number) (stop : Stop) : Type 0 where
   pub there : SomeOf (λ q. q ≡ stop.place) places

@@ -18,8 +18,8 @@ ghost use Rattle.lhg_union.specs.Regions.{plain_region};
 ghost use Rattle.lhg_ctl.specs.Conditions.{IsControllerOf};
 ghost use Rattle.lhg_ctl.specs.Views.{plain_controller};
 ghost use Rattle.lhg_run.specs.Answers.{IsAnswered};
-ghost use Rattle.lhg_run.specs.Numbers.{IsWideFlow, HasLongStop};
-ghost use Rattle.lhg_run.specs.Seen.{IsTaken, MayTake, IsPicked, IsStopDone, IsWideStop, IsLongStop, steps_to, plain_done};
+ghost use Rattle.lhg_run.specs.Numbers.{IsWideFlow, HasWideStop, HasLongStop};
+ghost use Rattle.lhg_run.specs.Seen.{IsWay, IsDone, IsTaken, MayTake, IsPicked, IsStopDone, IsWideStop, IsLongStop, steps_to, plain_done};
 
 use crate::copies::copy_point;
 use crate::doing::Done;
@@ -56,9 +56,30 @@ pub(crate) fn flow(
     }
     let rows = run_rows(alloc, plant, controller, from.loc)?;
     let places = cut(alloc, &from.at, to, &rows)?;
-    match follow(alloc, plant, controller, from, to, &places)? {
-        Way::Whole => Ok(Some(passed(alloc, from, time, to)?)),
-        Way::Stopped(stop) => Ok(Some(stopped(alloc, plant, controller, from, time, stop)?)),
+    let way = follow(alloc, plant, controller, from, to, &places)?;
+    let done = done_by(alloc, plant, controller, from, time, to, way)?;
+    Ok(Some(done))
+}
+
+// What the flow does that is run so far.
+fn done_by(
+    alloc: Global,
+    plant: &Plant,
+    controller: &Controller,
+    from: &State,
+    time: &Frac,
+    to: &Point<Frac>,
+    way: Way,
+) -> Result<Done, Halt>
+    requires controller { IsControllerOf (plain_plant plant.now) controller.now }
+    requires inside { IsRegionInside (plain_plant plant.now) (plain_region controller.now.region.pieces.items) }
+    requires valid { IsValid (plain_plant plant.now) (plain_controller controller.now) }
+    requires way { IsWay (plain_plant plant.now) (plain_controller controller.now) (plain_state from.now) to.now way }
+    ensures { IsAnswered result (IsDone (plain_plant plant.now) (plain_controller controller.now) (resting (plain_state from.now)) (flow_entry time.now to.now)) (HasWideStop (plain_plant plant.now) (plain_controller controller.now) (plain_state from.now) time.now to.now) (HasLongStop (plain_plant plant.now) (plain_controller controller.now) (plain_state from.now) to.now) }
+{
+    match way {
+        Way::Whole => passed(alloc, from, time, to),
+        Way::Stopped(stop) => stopped(alloc, plant, controller, from, time, stop),
     }
 }
 

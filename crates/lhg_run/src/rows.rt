@@ -1,11 +1,13 @@
 // The rows at which a run looks in a location.
-ghost use Rattle.std.specs.Prelude.{◌≡◌, ◌<◌, ◌+◌, ◌++◌, length, map, drop, OnOk, IfErr};
+ghost use Rattle.std.specs.Prelude.{◌≡◌, ◌<◌, ◌+◌, ◌++◌, ℕ, length, map, drop, OnOk, IfOk, IfErr};
+ghost use Rattle.lhg_math.specs.Tests.{AllOf};
 ghost use Rattle.lhg_num.specs.Halting.{IsHaltedByMemory};
 ghost use Rattle.lhg_num.specs.Marked.{done};
+ghost use Rattle.lhg_row.specs.Width.{AllWide};
 ghost use Rattle.lhg_motion.specs.CheckPoint.{rows_of};
 ghost use Rattle.lhg_plant.specs.Run.{guard_rows, run_rows};
 ghost use Rattle.lhg_plant.specs.Views.{plain_plant, plain_switch};
-ghost use Rattle.lhg_union.specs.PolyLists.{lines_of};
+ghost use Rattle.lhg_union.specs.PolyLists.{lines_of, AllVars};
 ghost use Rattle.lhg_union.specs.Regions.{plain_region};
 ghost use Rattle.lhg_ctl.specs.Conditions.{IsControllerOf};
 ghost use Rattle.lhg_ctl.specs.Views.{plain_controller};
@@ -28,6 +30,7 @@ pub(crate) fn run_rows(
     requires there { loc < length plant.now.locs.items }
     requires controller { IsControllerOf (plain_plant plant.now) controller.now }
     ensures rows { IsHaltedByMemory result (done (run_rows (plain_plant plant.now) (plain_controller controller.now) loc)) (λ v. v.items) }
+    ensures wide { IfOk result (λ v. AllWide (length plant.now.vars.items) v.items) }
 {
     let mut rows = Vec::new(alloc);
     append_pieces(alloc, &mut rows, &controller.region.pieces[loc as usize])?;
@@ -44,7 +47,8 @@ fn append_guards(
     loc: u32,
 ) -> Result<(), Halt>
     requires { length guards.now ≡ length plant.now.switches.items }
-    ensures { IsHaltedByMemory result (done (rows.old.items ++ guard_rows (plain_plant plant.now).switches (plain_region guards.now) loc)) (λ _. rows.new.items) }
+    ensures rows { IsHaltedByMemory result (done (rows.old.items ++ guard_rows (plain_plant plant.now).switches (plain_region guards.now) loc)) (λ _. rows.new.items) }
+    ensures wide { (n : ℕ) → AllOf (λ ps. AllVars n ps.items) guards.now → AllWide n rows.old.items → OnOk result (AllWide n rows.new.items) }
 {
     for e in 0..plant.switches.len() {
         append_guard(alloc, rows, plant, guards, loc, e)?;
@@ -64,9 +68,11 @@ fn append_guard(
     requires there { e < length plant.now.switches.items }
     requires many { length guards.now ≡ length plant.now.switches.items }
     ensures rows { OnOk result (rows.new.items ++ guard_rows (map plain_switch (drop (e + 1) plant.now.switches.items)) (plain_region (drop (e + 1) guards.now)) loc ≡ rows.old.items ++ guard_rows (map plain_switch (drop e plant.now.switches.items)) (plain_region (drop e guards.now)) loc) }
+    ensures wide { (n : ℕ) → AllOf (λ ps. AllVars n ps.items) guards.now → AllWide n rows.old.items → OnOk result (AllWide n rows.new.items) }
     ensures err { IfErr result (λ h. h ≡ Halt.Memory) }
 {
-    if plant.switches[e].from != loc {
+    let switch = &plant.switches[e];
+    if switch.from != loc {
         return Ok(());
     }
     append_pieces(alloc, rows, &guards[e])
@@ -78,7 +84,8 @@ fn append_pieces(
     rows: &mut Vec<Row<Frac>>,
     pieces: &[Poly<Frac>],
 ) -> Result<(), Halt>
-    ensures { IsHaltedByMemory result (done (rows.old.items ++ rows_of (lines_of pieces.now))) (λ _. rows.new.items) }
+    ensures rows { IsHaltedByMemory result (done (rows.old.items ++ rows_of (lines_of pieces.now))) (λ _. rows.new.items) }
+    ensures wide { (n : ℕ) → AllVars n pieces.now → AllWide n rows.old.items → OnOk result (AllWide n rows.new.items) }
 {
     for piece in pieces {
         append_rows(alloc, rows, piece.rows())?;

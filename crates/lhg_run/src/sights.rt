@@ -59,7 +59,8 @@ pub(crate) fn look(
     if !inside {
         return Ok(Sight::Outside);
     }
-    match guard_at(plant, &controller.guards, from.loc, &at)? {
+    let found = guard_at(plant, &controller.guards, from.loc, &at)?;
+    match found {
         Some(switch) => Ok(Sight::Guarded { switch, at }),
         None => Ok(Sight::Inside),
     }
@@ -102,7 +103,8 @@ fn has_guard(
     ensures exact { IfOk result (λ b. IsTrue b ↔ InGuard (plain_plant plant.now) (plain_region guards.now) e (record { loc = loc; at = at.now })) }
     ensures wide { IfErr result (λ _. (piece_truth frac_arithmetic (guard_rows (plain_plant plant.now).switches (plain_region guards.now) loc) at.now).wide ≡ true) }
 {
-    if plant.switches[e].from != loc {
+    let switch = &plant.switches[e];
+    if switch.from != loc {
         return Ok(false);
     }
     some_has(&guards[e], at)

@@ -15,6 +15,7 @@ ghost use Rattle.lhg_ctl.specs.Views.{plain_controller};
 ghost use Rattle.lhg_run.specs.Answers.{IsAnswered};
 ghost use Rattle.lhg_run.specs.Numbers.{HasWideSight};
 ghost use Rattle.lhg_run.specs.Seen.{IsWay};
+ghost use Rattle.lhg_run.specs.Seen as calculus;
 ghost use Rattle.lhg_run.specs.declared.ways.Way.TheVariants.{Stopped};
 
 use crate::sights::{Sight, look};
@@ -61,16 +62,33 @@ pub(crate) fn follow(
 {
     let mut last = None;
     for place in places {
-        match look(alloc, plant, controller, from, to, place)? {
-            Sight::Outside => return Ok(stopped(last)),
-            Sight::Inside => {}
-            Sight::Guarded { switch, at } => {
-                let place = *place;
-                last = Some(Stop { place, at, switch });
-            }
+        let sight = look(alloc, plant, controller, from, to, place)?;
+        if is_outside(&sight) {
+            return Ok(stopped(last));
         }
+        last = later(last, *place, sight);
     }
     Ok(Way::Whole)
+}
+
+// Whether the region does not hold.
+fn is_outside(sight: &Sight) -> bool
+    ensures { result ≡ calculus.is_outside sight.now }
+{
+    match sight {
+        Sight::Outside => true,
+        _ => false,
+    }
+}
+
+// The stop so far, or a later one where a guard holds at the place.
+fn later(last: Option<Stop>, place: Frac, sight: Sight) -> Option<Stop>
+    ensures { result ≡ calculus.later last place sight }
+{
+    match sight {
+        Sight::Guarded { switch, at } => Some(Stop { place, at, switch }),
+        _ => last,
+    }
 }
 
 // The flow is stopped where a guard held last.
