@@ -1,4 +1,4 @@
-use Rattle.std.proofs.Common.{◌≡◌, ◌++◌, ◌∷◌, [], inl, inr, refl}
+use Rattle.std.proofs.Common.{◌≡◌, ◌++◌, Some, ◌∷◌, [], inl, inr, refl}
 use Rattle.lhg_math.specs.Number.{mul}
 use Rattle.lhg_play.specs.Views.{plain_steps}
 use Rattle.lhg_plant.specs.declared.plants.Side.TheVariants.{Ctl, Pick}
@@ -7,6 +7,7 @@ use Rattle.lhg_plant.specs.State.{moved_to}
 use Rattle.lhg_plant.specs.Views.{plain_plant, plain_state, plain_switch}
 use Rattle.lhg_ctl.specs.Views.{plain_controller}
 use Rattle.lhg_run.specs.Seen.{steps_to}
+use Rattle.lhg_run.specs.declared.doing.Done.{Done}
 use Rattle.lhg_run.proofs.Answering.{answered-as}
 use Rattle.lhg_run.proofs.MoveSteps.{switch-there}
 use Rattle.lhg_run.proofs.PickCall.{its-side, other-side, with-switch, stop-pending, stop-picked}
@@ -40,4 +41,5 @@ returns-in_default c =
     let side = other-side a stop.switch (plain_switch w) there k (moved_to s stop.at) c.requires.taken c.in_default.not-Pick in
     let steps : plain_steps c.push.new.self.items ≡ steps_to (mul stop.place t) stop ++ switched stop.switch ∷ [] =
     with-switch c.in_ok-steps.steps.items c.push.new.self.items (steps_to (mul stop.place t) stop) stop.switch c.in_ok-steps.ensures c.in_ok-push.ensures.items in
-    stop-pending a k s t stop _ side steps refl
+    let done : Done = record { steps = c.push.new.self; state = record { loc = c.args.from.now.loc; at = stop.at }; pending = Some stop.switch } in
+    stop-pending a k s t stop done side steps refl
