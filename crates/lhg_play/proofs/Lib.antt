@@ -1,1 +1,5 @@
+pub mod CallSteps
+pub mod CutPlaces
+pub mod Inserting
 pub mod JoinSteps
+pub mod TurnPlaces

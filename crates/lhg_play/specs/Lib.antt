@@ -1,1 +1,4 @@
+pub mod Checks
+pub mod Cut
+pub mod Slots
 pub mod Views

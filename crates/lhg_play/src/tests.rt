@@ -4,7 +4,7 @@ ghost use Rattle.lhg_plant.specs.Legal.{LegalFlow};
 ghost use Rattle.lhg_plant.specs.Proper.{IsLine};
 ghost use Rattle.lhg_plant.specs.Views.{plain_plant, plain_state};
 
-use crate::join_flow;
+use crate::{cut, join_flow, point_at};
 use lhg_num::{Frac, Scalar};
 use lhg_plant::{Location, Name, Plant, State, legal_flow};
 use lhg_row::{Kind, Point, Row, whole_row};
@@ -78,5 +78,35 @@ fn two_flows_are_one(rt: HostRuntime) -> Result<(), Fail> {
     assert!(rt; second);
     let time = join_flow(&plant, &start, &one, &middle.at, &one, &end);
     assert!(rt; time == Ok(Frac::from(2)));
+    Ok(())
+}
+
+// The fraction of these whole numbers.
+fn fraction(n: i128, d: i128) -> Result<Frac, Fail> {
+    Ok(Frac::new(n, d).ok().ok_or("no fraction")?)
+}
+
+#[test]
+fn a_region_and_a_guard(rt: HostRuntime) -> Result<(), Fail> {
+    let alloc = rt.alloc();
+    let start = point(alloc, 0)?;
+    let end = point(alloc, 9)?;
+    let mut rows = between(alloc, 0, 8)?;
+    let mut guard = between(alloc, 7, 8)?;
+    rows.append(&mut guard)?;
+    let places = cut(alloc, &start, &end, &rows)?;
+    let expected = vec![in alloc;
+        Frac::zero(),
+        fraction(7, 18)?,
+        fraction(7, 9)?,
+        fraction(5, 6)?,
+        fraction(8, 9)?,
+        fraction(17, 18)?,
+        Frac::one(),
+    ]?;
+    assert!(rt; places == expected);
+    let at = point_at(alloc, &start, &end, &fraction(5, 6)?)?;
+    let middle = vec![in alloc; fraction(15, 2)?]?;
+    assert!(rt; at.at == middle);
     Ok(())
 }

@@ -3,3 +3,4 @@ pub mod ReportConditions
 pub mod ReportLaws
 pub mod ReportText
 pub mod ShortPlant
+pub mod TraceText

@@ -1,4 +1,4 @@
-//! Plants and reports as texts.
+//! Plants, reports and traces as texts.
 #![tactic(auto)]
 
 pub mod laws;
@@ -9,7 +9,9 @@ mod report_tests;
 mod reports;
 #[cfg(test)]
 mod tests;
+mod traces;
 mod words;
 
 pub use plants::print_plant;
 pub use reports::print_report;
+pub use traces::print_trace;

@@ -1,0 +1,10 @@
+pub mod Answering
+pub mod FlowSteps
+pub mod MoveSteps
+pub mod PickCall
+pub mod PickSteps
+pub mod RowSteps
+pub mod RunCall
+pub mod RunSteps
+pub mod SightSteps
+pub mod WaySteps

@@ -1,0 +1,20 @@
+//! What a controller does with a log: its run, entry by entry.
+#![tactic(auto)]
+
+mod copies;
+mod doing;
+mod entries;
+mod flows;
+mod moves;
+mod picks;
+mod rows;
+mod running;
+mod runs;
+mod sights;
+mod stops;
+mod ways;
+
+pub use entries::Entry;
+pub use picks::first_result;
+pub use runs::run;
+pub use stops::RunStop;
