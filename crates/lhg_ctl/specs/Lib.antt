@@ -1,3 +1,4 @@
+pub mod AllOver
 pub mod Conditions
 pub mod ControllerGrammar
 pub mod ControllerLaws

@@ -30,9 +30,13 @@ source_in (Some w) = w.from
 abbrev pub source_at : PlainPlant → ℕ → ℕ
 source_at a e = source_in (slice_get a.switches e)
 
--- a line more: make of the invariant's rows of its location followed by the line's rows, where there is a piece
+-- a line of a location more: make of the location's invariant's rows followed by the line's rows, where there is a piece
+abbrev pub line_at : PlainPlant → ℕ → List (List PlainPiece) → ℕ × PlainPiece → Marked (List (List PlainPiece))
+line_at a l lists p = and_then (make frac_arithmetic (length a.vars) (inv_at a l ++ p.1)) (λ o. put lists p.0 o)
+
+-- the same where the line's place says the location
 abbrev pub line_made : PlainPlant → (ℕ → ℕ) → List (List PlainPiece) → ℕ × PlainPiece → Marked (List (List PlainPiece))
-line_made a loc lists p = and_then (make frac_arithmetic (length a.vars) (inv_at a (loc p.0) ++ p.1)) (λ o. put lists p.0 o)
+line_made a loc lists p = line_at a (loc p.0) lists p
 
 -- the lines in order, from so many empty lists on
 abbrev pub all_made : PlainPlant → (ℕ → ℕ) → ℕ → List (ℕ × PlainPiece) → Marked (List (List PlainPiece))

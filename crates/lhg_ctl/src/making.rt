@@ -9,9 +9,10 @@ ghost use Rattle.lhg_plant.specs.Region.{InRegion, InGuard};
 ghost use Rattle.lhg_plant.specs.State.{PlainState};
 ghost use Rattle.lhg_plant.specs.Views.{plain_plant};
 ghost use Rattle.lhg_union.specs.Regions.{plain_region};
+ghost use Rattle.lhg_ctl.specs.AllOver.{AreAllOver};
 ghost use Rattle.lhg_ctl.specs.Conditions.{IsControllerOf, IsInsideController};
 ghost use Rattle.lhg_ctl.specs.DraftStates.{IsPlaced, IsDraft, InDraft, InDraftGuard};
-ghost use Rattle.lhg_ctl.specs.Making.{put, source_at, line_made, all_made, controller_of};
+ghost use Rattle.lhg_ctl.specs.Making.{put, source_at, line_at, all_made, controller_of};
 ghost use Rattle.lhg_ctl.specs.Views.{plain_placed, plain_controller, plain_draft};
 
 use crate::controllers::{Controller, Draft};
@@ -55,6 +56,7 @@ fn put(lists: &mut Region<Frac>, place: u32, piece: Option<Poly<Frac>>) -> Resul
     requires { place < length lists.old.pieces.items }
     ensures calculus { IsHaltedByPieces result (put (plain_region lists.old.pieces.items) place (option_map (λ p. p.lines) piece)) (λ _. plain_region lists.new.pieces.items) }
     ensures count { OnOk result (length lists.new.pieces.items ≡ length lists.old.pieces.items) }
+    ensures vars { (n : ℕ) → AreAllOver n lists.old.pieces.items → IfSome piece (λ p. p.width ≡ n) → OnOk result (AreAllOver n lists.new.pieces.items) }
 {
     match piece {
         None => Ok(()),
@@ -62,51 +64,35 @@ fn put(lists: &mut Region<Frac>, place: u32, piece: Option<Poly<Frac>>) -> Resul
     }
 }
 
-// A piece of a location.
-fn put_piece(
+// Puts the piece of a location's invariant and a line's rows, where there is one, at the end of the list at a place.
+fn put_line(
     alloc: Global,
     plant: &Plant,
     lists: &mut Region<Frac>,
+    location: u32,
     place: u32,
     rows: &[Row<Frac>],
 ) -> Result<(), Halt>
-    requires count { length lists.old.pieces.items ≡ length plant.now.locs.items }
-    requires place { place < length plant.now.locs.items }
+    requires location { location < length plant.now.locs.items }
+    requires place { place < length lists.old.pieces.items }
     requires rows { AllWide (length plant.now.vars.items) rows.now }
-    ensures calculus { IsHaltedBy result (line_made (plain_plant plant.now) (λ l. l) (plain_region lists.old.pieces.items) (place, rows.now)) (λ _. plain_region lists.new.pieces.items) }
+    requires vars { AreAllOver (length plant.now.vars.items) lists.old.pieces.items }
+    ensures calculus { IsHaltedBy result (line_at (plain_plant plant.now) location (plain_region lists.old.pieces.items) (place, rows.now)) (λ _. plain_region lists.new.pieces.items) }
     ensures count { OnOk result (length lists.new.pieces.items ≡ length lists.old.pieces.items) }
+    ensures vars { OnOk result (AreAllOver (length plant.now.vars.items) lists.new.pieces.items) }
 {
-    let piece = made(
-        alloc,
-        plant.vars.len(),
-        &plant.locs[place as usize].inv,
-        rows,
-    )?;
+    let inv = &plant.locs[location as usize].inv;
+    let piece = made(alloc, plant.vars.len(), inv, rows)?;
     put(lists, place, piece)
 }
 
-// A guard of a switch.
-fn put_guard(
-    alloc: Global,
-    plant: &Plant,
-    lists: &mut Region<Frac>,
-    place: u32,
-    rows: &[Row<Frac>],
-) -> Result<(), Halt>
-    requires count { length lists.old.pieces.items ≡ length plant.now.switches.items }
-    requires place { place < length plant.now.switches.items }
-    requires rows { AllWide (length plant.now.vars.items) rows.now }
-    ensures calculus { IsHaltedBy result (line_made (plain_plant plant.now) (source_at (plain_plant plant.now)) (plain_region lists.old.pieces.items) (place, rows.now)) (λ _. plain_region lists.new.pieces.items) }
-    ensures count { OnOk result (length lists.new.pieces.items ≡ length lists.old.pieces.items) }
+// The location that a switch leaves.
+fn source(plant: &Plant, place: u32) -> u32
+    requires { place < length plant.now.switches.items }
+    ensures source { result ≡ source_at (plain_plant plant.now) place }
+    ensures below { result < length plant.now.locs.items }
 {
-    let from = plant.switches[place as usize].from;
-    let piece = made(
-        alloc,
-        plant.vars.len(),
-        &plant.locs[from as usize].inv,
-        rows,
-    )?;
-    put(lists, place, piece)
+    plant.switches[place as usize].from
 }
 
 // The pieces of all locations, line by line.
@@ -116,11 +102,14 @@ fn made_pieces(
     pieces: &[(u32, Vec<Row<Frac>>)],
 ) -> Result<Region<Frac>, Halt>
     requires { AllOf (IsPlaced (length plant.now.vars.items) (length plant.now.locs.items)) (map plain_placed pieces.now) }
-    ensures { IsHaltedBy result (all_made (plain_plant plant.now) (λ l. l) (length plant.now.locs.items) (map plain_placed pieces.now)) (λ r. plain_region r.pieces.items) }
+    ensures calculus { IsHaltedBy result (all_made (plain_plant plant.now) (λ l. l) (length plant.now.locs.items) (map plain_placed pieces.now)) (λ r. plain_region r.pieces.items) }
+    ensures count { IfOk result (λ r. length r.pieces.items ≡ length plant.now.locs.items) }
+    ensures vars { IfOk result (λ r. AreAllOver (length plant.now.vars.items) r.pieces.items) }
 {
     let mut lists = empty_lists(alloc, plant.locs.len())?;
     for i in 0..pieces.len() {
-        put_piece(alloc, plant, &mut lists, pieces[i].0, &pieces[i].1)?;
+        let place = pieces[i].0;
+        put_line(alloc, plant, &mut lists, place, place, &pieces[i].1)?;
     }
     Ok(lists)
 }
@@ -132,11 +121,15 @@ fn made_guards(
     guards: &[(u32, Vec<Row<Frac>>)],
 ) -> Result<Region<Frac>, Halt>
     requires { AllOf (IsPlaced (length plant.now.vars.items) (length plant.now.switches.items)) (map plain_placed guards.now) }
-    ensures { IsHaltedBy result (all_made (plain_plant plant.now) (source_at (plain_plant plant.now)) (length plant.now.switches.items) (map plain_placed guards.now)) (λ r. plain_region r.pieces.items) }
+    ensures calculus { IsHaltedBy result (all_made (plain_plant plant.now) (source_at (plain_plant plant.now)) (length plant.now.switches.items) (map plain_placed guards.now)) (λ r. plain_region r.pieces.items) }
+    ensures count { IfOk result (λ r. length r.pieces.items ≡ length plant.now.switches.items) }
+    ensures vars { IfOk result (λ r. AreAllOver (length plant.now.vars.items) r.pieces.items) }
 {
     let mut lists = empty_lists(alloc, plant.switches.len())?;
     for i in 0..guards.len() {
-        put_guard(alloc, plant, &mut lists, guards[i].0, &guards[i].1)?;
+        let place = guards[i].0;
+        let source = source(plant, place);
+        put_line(alloc, plant, &mut lists, source, place, &guards[i].1)?;
     }
     Ok(lists)
 }

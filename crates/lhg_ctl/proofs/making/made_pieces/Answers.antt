@@ -1,0 +1,41 @@
+use Rattle.std.proofs.Common.{◌<◌, ℕ, length, map, subst, sym, ap, ◌∙◌}
+use Rattle.std.specs.Global.{Vec}
+use Rattle.lhg_row.specs.Row.{PlainRow}
+use Rattle.lhg_row.specs.Width.{AllWide}
+use Rattle.lhg_plant.specs.Views.{plain_plant}
+use Rattle.lhg_union.specs.Regions.{plain_region}
+use Rattle.lhg_row_text.proofs.Members.{all_map_at}
+use Rattle.lhg_ctl.specs.DraftStates.{IsPlaced}
+use Rattle.lhg_ctl.specs.Making.{line_made, all_made}
+use Rattle.lhg_ctl.specs.Views.{plain_placed}
+use Rattle.lhg_ctl.proofs.MakingSteps.{line_rest, line_is, end_rest}
+use Rattle.lhg_ctl.proofs.making.made_pieces.Goals as goal
+
+pub returns : goal.returns
+returns c =
+    let a = plain_plant c.args.plant.now in
+    end_rest a (λ x. x) (all_made a (λ x. x) (length c.args.plant.now.locs.items) (map plain_placed c.args.pieces.now)) c.args.pieces.now c.loop-i.i (plain_region c.loop-i.lists.pieces.items) c.loop-i-test.false c.loop-i.invariant.rest
+
+pub put_piece-requires-clause-place : goal.put_piece-requires-clause-place
+put_piece-requires-clause-place c =
+    let n = length c.args.plant.now.vars.items in
+    let m = length c.args.plant.now.locs.items in
+    subst (λ (x : ℕ × Vec PlainRow). x.0 < m) c.index-pieces-i.is (all_map_at (IsPlaced n m) plain_placed c.args.pieces.now c.loop-i.i c.index-pieces-i.result c.requires c.loop-i-test.true c.index-pieces-i.is).place
+
+pub put_piece-requires-clause-rows : goal.put_piece-requires-clause-rows
+put_piece-requires-clause-rows c =
+    let n = length c.args.plant.now.vars.items in
+    let m = length c.args.plant.now.locs.items in
+    subst (AllWide n) (sym (c.deref.ensures.value ∙ ap (λ (w : ℕ × Vec PlainRow). w.1.items) (sym c.index-pieces-i-in-loop-i.is))) (all_map_at (IsPlaced n m) plain_placed c.args.pieces.now c.loop-i.i c.index-pieces-i-in-loop-i.result c.requires c.loop-i-test.true c.index-pieces-i-in-loop-i.is).wide
+
+pub loop-i-preserved : goal.loop-i-preserved
+loop-i-preserved c =
+    let a = plain_plant c.args.plant.now in
+    let lists = plain_region c.loop-i.lists.pieces.items in
+    let x = c.index-pieces-i.result in
+    let whole = all_made a (λ x. x) (length c.args.plant.now.locs.items) (map plain_placed c.args.pieces.now) in
+    record {
+      rest = line_rest a (λ x. x) whole c.args.pieces.now c.loop-i.i x c.index-pieces-i.is c.loop-i-test.true lists c.loop-i.invariant.rest (plain_region c.put_piece.new.lists.pieces.items)
+          (c.in_ok-put_piece.ensures.calculus ∙ ap (λ p. (line_made a (λ x. x) lists p).value) (line_is c.args.pieces.now c.loop-i.i x c.index-pieces-i-in-loop-i.result c.deref.result.now c.loop-i-test.true c.index-pieces-i.is c.index-pieces-i-in-loop-i.is (c.deref.ensures.value ∙ ap (λ (w : ℕ × Vec PlainRow). w.1.items) (sym c.index-pieces-i-in-loop-i.is))));
+      count = c.in_ok-put_piece.ensures.count ∙ c.loop-i.invariant.count;
+    }
