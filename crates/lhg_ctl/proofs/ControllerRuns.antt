@@ -145,7 +145,7 @@ room_for xs ps p few =
 -- ---- names
 
 -- one name more of guards without names
-names_one : (k n : ℕ) → guard_names k (suc n) ≡ guard_names k n ++ guard_name (k + n) ∷ []
+pub names_one : (k n : ℕ) → guard_names k (suc n) ≡ guard_names k n ++ guard_name (k + n) ∷ []
 names_one k zero = refl
 names_one k (suc n) = ap (λ ws. guard_name k ∷ ws) (names_one (suc k) n ∙ ap (λ (m : ℕ). guard_names (suc k) n ++ guard_name m ∷ []) (next k n))
   where

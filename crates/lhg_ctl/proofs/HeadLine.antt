@@ -39,6 +39,10 @@ pub second_tokens : tokens_of (codes "controller 2") ≡ Ok second_line
 unfolding longest tokens_of second_line whole
 second_tokens = refl
 
+pub second_some : token_line (Ok second_line) ≡ Some (second_line ∷ [])
+unfolding second_line
+second_some = refl
+
 pub second_is : version_in second_line ≡ Some Second
 unfolding second_line numbered digits lt nought whole ratio ratio_suc gcd
 second_is = refl

@@ -1,6 +1,7 @@
 pub mod ControllerLawProofs
 pub mod ControllerMachine
 pub mod ControllerRuns
+pub mod GivenDrafts
 pub mod HeadLine
 pub mod LineSteps
 pub mod LinesRead
@@ -18,4 +19,5 @@ pub mod PlacedRows
 pub mod PrintedControllers
 pub mod PrintedLines
 pub mod ReadingSteps
+pub mod SecondTexts
 pub mod SwitchPlaces

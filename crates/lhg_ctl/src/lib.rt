@@ -3,6 +3,7 @@
 
 mod controller_lines;
 mod controllers;
+mod draft_printing;
 mod entries;
 pub mod laws;
 mod log_lines;
@@ -20,6 +21,7 @@ mod versions;
 
 pub use controllers::{Controller, Draft};
 pub use controller_lines::MOST_ROUNDS;
+pub use draft_printing::print_draft;
 pub use entries::Entry;
 pub use logs::read_log;
 pub use making::controller_of;
