@@ -99,7 +99,7 @@ module _ (p : PlainPlant) where
 
   -- and else with that number, and the end
   by_rounds : (lines : List (List Spot)) (o : PlainOpen) → IsBegun PlainOpen begin_at (taken p) is_ended lines o → o.ended ≡ false → o.begun ≡ false → CanGoOn (IsSomeController p) lines
-  unfolding no_rounds controller_line numbered digits nought lt whole ratio ratio_suc gcd
+  unfolding no_rounds controller_line digits nought lt whole ratio ratio_suc gcd
   by_rounds lines o b going begun =
       let next : PlainOpen = record o { begun = true; draft = record { pieces = o.draft.pieces; guards = o.draft.guards; rounds = 0; names = o.draft.names } } in
       let step : taken p o (word (codes "rounds") ∷ number nought ∷ []) (6 ∷ 1 ∷ []) ≡ Some next = ap (λ t. cond t None (Some next)) begun in

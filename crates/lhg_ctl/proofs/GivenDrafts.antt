@@ -126,7 +126,6 @@ module _ (a : PlainPlant) (proper : IsProper a) where
       subst (λ (m : ℕ). m ≤ most) c.1 (let t = b.0 in grind (arith, nat_tests, t))
 
   numbered_good : (w : List ℕ) (most : ℕ) (tokens : List PlainToken) (sizes : List ℕ) (k : ℕ) → numbered w most tokens sizes ≡ Some k → k ≤ most
-  unfolding numbered
   numbered_good w most [] sizes k e = absurd (none-some k e)
   numbered_good w most (x ∷ []) sizes k e = absurd (none-some k e)
   numbered_good w most (x ∷ y ∷ z ∷ tokens) sizes k e = absurd (none-some k e)

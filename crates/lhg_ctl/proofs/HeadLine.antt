@@ -28,7 +28,7 @@ head_some = refl
 
 -- they are a head
 pub head_is : version_in head_line ≡ Some First
-unfolding head_line numbered digits unit lt nought whole ratio ratio_suc gcd
+unfolding head_line digits unit lt nought whole ratio ratio_suc gcd
 head_is = refl
 
 -- the same of version 2
@@ -44,5 +44,5 @@ unfolding second_line
 second_some = refl
 
 pub second_is : version_in second_line ≡ Some Second
-unfolding second_line numbered digits lt nought whole ratio ratio_suc gcd
+unfolding second_line digits lt nought whole ratio ratio_suc gcd
 second_is = refl

@@ -1,7 +1,9 @@
 pub mod ControllerLawProofs
 pub mod ControllerMachine
 pub mod ControllerRuns
+pub mod Counting
 pub mod GivenDrafts
+pub mod GuardSteps
 pub mod HeadLine
 pub mod LineSteps
 pub mod LinesRead

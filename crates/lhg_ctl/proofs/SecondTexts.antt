@@ -83,7 +83,7 @@ not_below n = rw ((whole_parts (pos n)).0, (whole_parts (pos n)).1, (whole_parts
 
 -- and they say the number
 rounds_read : (a : PlainPlant) (n : ℕ) → n ≤ most_rounds → line_in Second a (rounds_spots n 0) ≡ Some (rounds n)
-unfolding controller_line numbered
+unfolding controller_line
 rounds_read a n few =
     let top = (whole_parts (pos n)).0 in
     let bottom = (whole_parts (pos n)).1 in

@@ -26,6 +26,6 @@ abbrev pub in_digits : ℕ → ℕ → ℕ → Option ℕ
 in_digits most size n = if nat_le n most && (size == length (decimal n)) then Some n else None
 
 -- the number, at most so large, that the tokens of these sizes give: the word, and the number in digits without a leading zero
-unfoldable pub numbered : List ℕ → ℕ → List PlainToken → List ℕ → Option ℕ
+abbrev pub numbered : List ℕ → ℕ → List PlainToken → List ℕ → Option ℕ
 numbered w most (first ∷ second ∷ []) (m ∷ n ∷ []) = if is_word w first then option_and_then (in_digits most n) (natural_in second) else None
 numbered w most _ _ = None
