@@ -16,7 +16,7 @@ use Rattle.lhg_read.proofs.Collecting.{same_eq}
 use Rattle.lhg_read.proofs.VariableSteps.{differ_more}
 use Rattle.lhg_ctl.specs.ControllerGrammar.{count_at, named_guards, said_rounds, said_guards, said_lines, AreNames}
 use Rattle.lhg_ctl.specs.ControllerLine.{ControllerLine, rounds, piece, guard, end, controller_line}
-use Rattle.lhg_ctl.specs.ControllerSteps.{PlainOpen, open_with, fits, is_new, may_piece, may_guard, next_name, with_guard, pushed, step, taken}
+use Rattle.lhg_ctl.specs.ControllerSteps.{PlainOpen, open_with, fits, is_new, may_piece, may_guard, next_name, with_rounds, with_piece, with_guard, pushed, step, taken}
 use Rattle.lhg_ctl.specs.Draft.{PlainDraft, guard_name, guard_names}
 use Rattle.lhg_ctl.specs.Numbered.{sizes_in}
 use Rattle.lhg_ctl.specs.declared.versions.Version.{Version}
@@ -50,15 +50,29 @@ line_in v p l = controller_line v p (said_in l) (sizes_in l)
 
 -- ---- the version stays
 
+if_passes : (b : Bool) (x new : PlainOpen) → cond b (Some x) None ≡ Some new → new ≡ x
+if_passes true x new h = sym (same_Some x new h)
+if_passes false x new h = absurd (none-some new h)
+
+if_fails : (b : Bool) (x new : PlainOpen) → cond b None (Some x) ≡ Some new → new ≡ x
+if_fails true x new h = absurd (none-some new h)
+if_fails false x new h = sym (same_Some x new h)
+
+if_some : (b : Bool) (x : Option PlainOpen) (new : PlainOpen) → cond b x None ≡ Some new → x ≡ Some new
+if_some true x new h = h
+if_some false x new h = absurd (none-some new h)
+
+version_of : (x new : PlainOpen) → new ≡ x → new.version ≡ x.version
+version_of x new e = ap (λ (o : PlainOpen). o.version) e
+
 same_version : (o new : PlainOpen) (value : ControllerLine) → step o value ≡ Some new → new.version ≡ o.version
-same_version o new (rounds n) h = by_bool o.begun (λ e. absurd (none-some new (sym (ap (λ b. cond b None (Some _)) e) ∙ h))) (λ e. ap (λ (x : PlainOpen). x.version) (sym (same_Some _ new (sym (ap (λ b. cond b None (Some _)) e) ∙ h))))
-same_version o new (piece p) h = by_bool (may_piece o p.0) (λ e. ap (λ (x : PlainOpen). x.version) (sym (same_Some _ new (sym (ap (λ b. cond b (Some _) None) e) ∙ h)))) (λ e. absurd (none-some new (sym (ap (λ b. cond b (Some _) None) e) ∙ h)))
+same_version o new (rounds n) h = let x : PlainOpen = record o { begun = true; draft = with_rounds n o.draft } in version_of x new (if_fails o.begun x new h)
+same_version o new (piece p) h = let x : PlainOpen = record o { draft = with_piece p o.draft } in version_of x new (if_passes (may_piece o p.0) x new h)
 same_version o new (guard name g) h =
-    by_bool (fits o.version name && is_new name o.draft.names)
-    (λ e. let k = sym (ap (λ b. cond b (pushed o (next_name o.draft name) g) None) e) ∙ h in
-    by_bool (may_guard o g.0) (λ f. ap (λ (x : PlainOpen). x.version) (sym (same_Some _ new (sym (ap (λ b. cond b (Some _) None) f) ∙ k)))) (λ f. absurd (none-some new (sym (ap (λ b. cond b (Some _) None) f) ∙ k))))
-    (λ e. absurd (none-some new (sym (ap (λ b. cond b (pushed o (next_name o.draft name) g) None) e) ∙ h)))
-same_version o new end h = by_bool o.begun (λ e. ap (λ (x : PlainOpen). x.version) (sym (same_Some _ new (sym (ap (λ b. cond b (Some _) None) e) ∙ h)))) (λ e. absurd (none-some new (sym (ap (λ b. cond b (Some _) None) e) ∙ h)))
+    let w = next_name o.draft name in
+    let x : PlainOpen = record o { draft = with_guard w g o.draft } in
+    version_of x new (if_passes (may_guard o g.0) x new (if_some (fits o.version name && is_new name o.draft.names) (pushed o w g) new h))
+same_version o new end h = let x : PlainOpen = record o { ended = true } in version_of x new (if_passes o.begun x new h)
 
 -- ---- what tokens say, and what that changes
 
@@ -146,7 +160,10 @@ room_for xs ps p few =
 
 -- one name more of guards without names
 pub names_one : (k n : ℕ) → guard_names k (suc n) ≡ guard_names k n ++ guard_name (k + n) ∷ []
-names_one k zero = refl
+names_one k zero = ap (λ (m : ℕ). guard_name m ∷ []) (plus_zero k)
+  where
+    plus_zero : (k : ℕ) → k ≡ k + 0
+    plus_zero k = omega arith
 names_one k (suc n) = ap (λ ws. guard_name k ∷ ws) (names_one (suc k) n ∙ ap (λ (m : ℕ). guard_names (suc k) n ++ guard_name m ∷ []) (next k n))
   where
     next : (k n : ℕ) → suc k + n ≡ k + suc n
@@ -155,10 +172,13 @@ names_one k (suc n) = ap (λ ws. guard_name k ∷ ws) (names_one (suc k) n ∙ a
 -- the names of so many guards, and of one more
 names_more : (gs : List (ℕ × PlainPiece)) (g : ℕ × PlainPiece) → guard_names 1 (length (gs ++ g ∷ [])) ≡ guard_names 1 (length gs) ++ guard_name (length gs + 1) ∷ []
 names_more gs g =
-    ap (guard_names 1) (length-append gs (g ∷ [])) ∙ names_one 1 (length gs) ∙ ap (λ (m : ℕ). guard_names 1 (length gs) ++ guard_name m ∷ []) (turn (length gs))
+    ap (guard_names 1) (longer gs g) ∙ names_one 1 (length gs) ∙ ap (λ (m : ℕ). guard_names 1 (length gs) ++ guard_name m ∷ []) (turn (length gs))
   where
     turn : (n : ℕ) → 1 + n ≡ n + 1
     turn n = omega arith
+
+    longer : (gs : List (ℕ × PlainPiece)) (g : ℕ × PlainPiece) → length (gs ++ g ∷ []) ≡ suc (length gs)
+    longer gs g = let e = length-append gs (g ∷ []) in omega (arith, e)
 
 -- the names stay right where a guard comes
 still_names : (v : Version) (ps gs : List (ℕ × PlainPiece)) (n : ℕ) (names : List (List ℕ)) (name : Option (List ℕ)) (g : ℕ × PlainPiece) → fits v name ≡ true → is_new name names ≡ true

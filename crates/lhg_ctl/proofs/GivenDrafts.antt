@@ -1,6 +1,6 @@
 -- A controller that is read can be made and printed: what its lines say is right.
 use Rattle.std.proofs.Common.{◌≡◌, ◌<◌, ◌≤◌, ◌+◌, ◌⊎◌, inl, inr, ℕ, zero, suc, List, [], ◌∷◌, ◌++◌, length, map, refl, sym, ap, ◌∙◌, subst, Bool, true, false, ◌&&◌, ◌||◌, ◌==◌, Option, Some, None, arith, nat_le, codes, decimal}
-use Rattle.std.specs.Prelude.{slice_get}
+use Rattle.std.specs.Prelude.{slice_get, if◌then◌else◌, ◌^◌}
 use Rattle.std.specs.Option.{option_and_then, option_map}
 use Rattle.std.specs.Str.{bytes_eq}
 use Rattle.std.proofs.lemmas.Bool.{and_parts}
@@ -222,7 +222,7 @@ is_later k (suc n) m h lt =
     tails e = cc
 
 -- g1, g2 and so on are all different
-names_differ : (n : ℕ) → n < 2 ^ 63 → all_differ (guard_names 1 n) ≡ true
+names_differ : (n : ℕ) → n < 2 ^ 64 → all_differ (guard_names 1 n) ≡ true
 names_differ zero h = refl
 names_differ (suc n) h = ap all_differ (names_one 1 n) ∙ differ_more (guard_names 1 n) (guard_name (1 + n)) (names_differ n (omega arith)) (is_later 1 n (1 + n) (omega arith) (omega arith))
 
@@ -234,12 +234,12 @@ named : (v : Version) (d : PlainDraft) → AreNames v d → length d.names ≡ l
 named First d n = ap length n.1 ∙ names_count 1 (length d.guards)
 named Second d n = n.0
 
-differ : (v : Version) (d : PlainDraft) → length d.guards < 2 ^ 63 → AreNames v d → all_differ d.names ≡ true
+differ : (v : Version) (d : PlainDraft) → length d.guards < 2 ^ 64 → AreNames v d → all_differ d.names ≡ true
 differ First d few n = ap all_differ n.1 ∙ names_differ (length d.guards) few
 differ Second d few n = n.1
 
 -- a controller of a text can be made and printed
-pub given_draft : (a : PlainPlant) → IsProper a → (lines : List (List Spot)) (d : PlainDraft) → IsController a lines d → length d.guards < 2 ^ 63 → IsGivenDraft a d
+pub given_draft : (a : PlainPlant) → IsProper a → (lines : List (List Spot)) (d : PlainDraft) → IsController a lines d → length d.guards < 2 ^ 64 → IsGivenDraft a d
 given_draft a proper lines d h few =
     let v = h.version in
     let all = all_split (IsGood a) (said_rounds v d.rounds) (map (λ p. piece p) d.pieces ++ (said_guards v d.names d.guards ++ end ∷ [])) (all_good a proper v h.rest (said_lines v d) h.rest_are) in

@@ -3,6 +3,7 @@ pub mod ControllerMachine
 pub mod ControllerRuns
 pub mod Counting
 pub mod GivenDrafts
+pub mod GuardNames
 pub mod GuardSteps
 pub mod HeadLine
 pub mod LineSteps

@@ -24,7 +24,7 @@ use Rattle.lhg_ctl.specs.Numbered.{sizes_in, sizes_of}
 -- the tokens of a line in a text have the sizes of its spots
 placed_sizes : (start : ℕ) (spots : List Spot) → sizes_of (map (placed start) spots) ≡ sizes_in spots
 placed_sizes start [] = refl
-placed_sizes start (x ∷ spots) = let e : start + x.to - (start + x.from) ≡ x.to - x.from = omega arith in ap (λ k. k ∷ sizes_of (map (placed start) spots)) e ∙ ap (λ ks. x.to - x.from ∷ ks) (placed_sizes start spots)
+placed_sizes start (x ∷ spots) = let e : start + x.to - (start + x.from) ≡ x.to - x.from = omega arith in ap (λ k. k ∷ sizes_of (map (placed start) spots)) e ∙ ap (λ ks. (x.to - x.from) ∷ ks) (placed_sizes start spots)
 
 pub sizes_are : (s : Reading) (line : Line) (h : IsTokenLine s line) (tokens : List Token) → tokens ≡ line.tokens.items → sizes_of tokens ≡ sizes_in h.spots
 sizes_are s line h tokens f = ap sizes_of (f ∙ h.placed_at) ∙ placed_sizes (start_of h.before (lines_of s.bytes)) h.spots

@@ -59,10 +59,13 @@ module _ (a : PlainPlant) (loc : ℕ → ℕ) (P : ℕ → PlainPiece → Type 0
       size zero = refl
       size (suc n) = ap (λ (k : ℕ). suc k) (size n)
 
+      nothing : (Q : PlainPiece → Type 0) (n j : ℕ) → AllOf Q (get_or (replicate n (let e : List PlainPiece = [] in e)) j [])
+      nothing Q zero j = tt
+      nothing Q (suc n) zero = tt
+      nothing Q (suc n) (suc j) = nothing Q n j
+
       none : (n j : ℕ) → AllOf (P j) (get_or (replicate n (let e : List PlainPiece = [] in e)) j [])
-      none zero j = tt
-      none (suc n) zero = tt
-      none (suc n) (suc j) = none n j
+      none n j = nothing (P j) n j
 
 -- ---- how many lists, and which of them stay empty
 

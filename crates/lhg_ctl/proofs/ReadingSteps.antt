@@ -14,7 +14,7 @@ use Rattle.lhg_read.specs.declared.refusal.Refusal.{Refusal}
 use Rattle.lhg_read.specs.declared.refusal.Refusal.TheVariants.{NotHere}
 use Rattle.lhg_ctl.specs.ControllerGrammar.{version_by, version_in, IsController, IsSomeController, IsSomeControllerText}
 use Rattle.lhg_ctl.specs.ControllerSteps.{PlainOpen, open_with, taken}
-use Rattle.lhg_ctl.specs.Numbered.{numbered, sizes_of}
+use Rattle.lhg_ctl.specs.Numbered.{numbered, sizes_in, sizes_of}
 use Rattle.lhg_ctl.specs.declared.versions.Version.{Version}
 use Rattle.lhg_ctl.proofs.ControllerMachine.{begin_at, controllers, controller_of_begun}
 use Rattle.lhg_ctl.proofs.ControllerRuns.{is_ended}
@@ -32,7 +32,7 @@ module _ (p : PlainPlant) where
   module _ (old : Reading) (line : Line) (new : Reading) (h : IsTokenLine old line) (e : new ≡ record old { read = line.number }) (tokens : List Token) (f : tokens ≡ line.tokens.items) where
     test : (v : Option Version) → v ≡ option_and_then version_by (numbered (codes "controller") 2 (map (plain_of new.bytes) tokens) (sizes_of tokens)) → version_in h.spots ≡ v
     test v k =
-        ap (λ ts. option_and_then version_by (numbered (codes "controller") 2 ts _)) (sym (said_after old line new h e tokens f))
+        ap (λ ts. option_and_then version_by (numbered (codes "controller") 2 ts (sizes_in h.spots))) (sym (said_after old line new h e tokens f))
         ∙ ap (λ ss. option_and_then version_by (numbered (codes "controller") 2 (map (plain_of new.bytes) tokens) ss)) (sym (sizes_are old line h tokens f)) ∙ sym k
 
     -- another first line

@@ -1,8 +1,9 @@
 -- The text of a draft is a controller of the grammar, whose value is the draft.
-use Rattle.std.proofs.Common.{◌≡◌, ◌≤◌, ◌+◌, ◌-◌, ℕ, List, [], ◌∷◌, ◌++◌, length, map, refl, sym, ap, ◌∙◌, subst, Bool, true, false, ◌&&◌, not, ◌==◌, Option, Some, None, Ok, arith, nat_le, le-leb, codes, decimal, append-nil}
-use Rattle.std.specs.Prelude.{pos, ◌*ℤ◌}
-use Rattle.std.specs.Int.RustNames.{int_lt}
+use Rattle.std.proofs.Common.{◌≡◌, ◌≤◌, ◌+◌, ◌-◌, ℕ, zero, suc, List, [], ◌∷◌, ◌++◌, length, map, refl, sym, ap, ◌∙◌, subst, Bool, true, false, cond, ◌&&◌, not, ◌==◌, Option, Some, None, Ok, arith, nat_le, le-leb, codes, decimal, append-nil}
+use Rattle.std.specs.Prelude.{ℤ, pos, ◌*ℤ◌}
+use Rattle.std.specs.Int.RustNames.{int_lt, unsigned_abs}
 use Rattle.std.specs.Option.{option_and_then, option_map}
+use Rattle.lhg_math.specs.Integers.{int_lt-mul, int_lt-no}
 use Rattle.lhg_math.specs.Inverses.{whole_parts}
 use Rattle.lhg_math.specs.Number.{whole, lt, nought}
 use Rattle.lhg_math.specs.Tests.{AllOf}
@@ -72,14 +73,12 @@ rounds_say n few =
     }
 
 rounds_tokens : (n : ℕ) → n ≤ most_rounds → tokens_of (rounds_text n) ≡ Ok (rounds_spots n 0)
+unfolding rounds_say
 rounds_tokens n few = line_says (rounds_say n few)
 
 not_below : (n : ℕ) → lt (whole (pos n)) nought ≡ false
 unfolding lt nought
-not_below n = rw ((whole_parts (pos n)).0, (whole_parts (pos n)).1, (whole_parts (pos 0)).0, (whole_parts (pos 0)).1) (below n)
-  where
-    below : (n : ℕ) → int_lt (pos n *ℤ pos 1) (pos 0 *ℤ pos 1) ≡ false
-    below n = refl
+not_below n = rw ((whole_parts (pos n)).0, (whole_parts (pos n)).1, (whole_parts (pos 0)).0, (whole_parts (pos 0)).1) (int_lt-mul (pos n) (pos 0) 1 (omega arith) ∙ int_lt-no (pos n) (pos 0) (omega arith))
 
 -- and they say the number
 rounds_read : (a : PlainPlant) (n : ℕ) → n ≤ most_rounds → line_in Second a (rounds_spots n 0) ≡ Some (rounds n)
@@ -88,7 +87,9 @@ rounds_read a n few =
     let top = (whole_parts (pos n)).0 in
     let bottom = (whole_parts (pos n)).1 in
     let up = not_below n in
-    let natural : natural_in (number (whole (pos n))) ≡ Some n = rw (bottom, up, top) refl in
+    let natural : natural_in (number (whole (pos n))) ≡ Some n =
+    ap (λ (m : ℕ). cond ((m == 1) && not (lt (whole (pos n)) nought)) (Some (unsigned_abs (whole (pos n)).top)) None) bottom
+    ∙ ap (λ b. cond (not b) (Some (unsigned_abs (whole (pos n)).top)) None) up ∙ ap (λ (z : ℤ). Some (unsigned_abs z)) top in
     let size : 0 + 6 + 1 + length (decimal n) - (0 + 6 + 1) ≡ length (decimal n) = omega arith in
     let small = le-leb n most_rounds few in
     let same = same_eq (length (decimal n)) in

@@ -16,11 +16,11 @@ ghost use Rattle.lhg_ctl.specs.DraftStates.{IsPlaced, IsGivenDraft};
 ghost use Rattle.lhg_ctl.specs.Views.{plain_placed, plain_draft};
 
 use crate::controllers::Draft;
+use crate::printing::push_line;
 use itoa::Buffer;
 use lhg_num::{Frac, Halt};
 use lhg_plant::{Name, Plant};
 use lhg_row::Row;
-use lhg_row_text::push_rows;
 use std::alloc::{AllocError, Global};
 
 // The line of a piece of a location.
@@ -35,11 +35,8 @@ fn push_piece(
     ensures text { OnOk result (text.new.items ≡ text.old.items ++ line (piece_line (plain_plant plant.now) (place, rows.now))) }
     ensures short { OnOk result (AllShort rows.now) }
 {
-    text.extend_from_slice(b"piece ")?;
-    text.extend_from_slice(plant.locs[place as usize].name.bytes())?;
-    text.extend_from_slice(b" ")?;
-    push_rows(text, &plant.vars, rows)?;
-    text.extend_from_slice(b"\n")
+    let name = plant.locs[place as usize].name.bytes();
+    push_line(text, b"piece", name, &plant.vars, rows)
 }
 
 // The line of a guard of a switch, with its name.
@@ -54,15 +51,11 @@ fn push_guard(
     requires rows { AllWide (length plant.now.vars.items) rows.now }
     ensures text { OnOk result (text.new.items ≡ text.old.items ++ line (named_guard_line (plain_plant plant.now) name.now (place, rows.now))) }
     ensures short { OnOk result (AllShort rows.now) }
-    ensures name { IsName name.now }
+    ensures name { OnOk result (IsName name.now) }
 {
+    let switch = plant.switches[place as usize].name.bytes();
     text.extend_from_slice(b"guard ")?;
-    text.extend_from_slice(plant.switches[place as usize].name.bytes())?;
-    text.extend_from_slice(b" ")?;
-    text.extend_from_slice(name.bytes())?;
-    text.extend_from_slice(b" ")?;
-    push_rows(text, &plant.vars, rows)?;
-    text.extend_from_slice(b"\n")
+    push_line(text, switch, name.bytes(), &plant.vars, rows)
 }
 
 // The lines of pieces.

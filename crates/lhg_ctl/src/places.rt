@@ -19,8 +19,12 @@ pub(crate) fn location_named(lines: &Lines, plant: &Plant, token: &Token) -> Opt
     ensures place { result ≡ location_in (plain_plant plant.now) (plain_of lines.now.bytes token.now) }
     ensures below { IfSome result (λ l. l < length plant.now.locs.items) }
 {
-    let name = read_name(lines, token)?;
-    let place = place_in(&plant.locs, &name)?;
+    let Some(name) = read_name(lines, token) else {
+        return None;
+    };
+    let Some(place) = place_in(&plant.locs, &name) else {
+        return None;
+    };
     Some(place as u32)
 }
 
@@ -61,8 +65,12 @@ pub(crate) fn controllable_named(lines: &Lines, plant: &Plant, token: &Token) ->
     ensures place { result ≡ switch_in is_controllable (plain_plant plant.now) (plain_of lines.now.bytes token.now) }
     ensures below { IfSome result (λ e. e < length plant.now.switches.items) }
 {
-    let name = read_name(lines, token)?;
-    let place = place_of(&plant.switches, &name)?;
+    let Some(name) = read_name(lines, token) else {
+        return None;
+    };
+    let Some(place) = place_of(&plant.switches, &name) else {
+        return None;
+    };
     if !is_controllable(plant.switches[place].side) {
         return None;
     }
@@ -75,8 +83,12 @@ pub(crate) fn uncontrollable_named(lines: &Lines, plant: &Plant, token: &Token) 
     requires word { IsLexed (plain_of lines.now.bytes token.now) }
     ensures place { result ≡ switch_in is_uncontrollable (plain_plant plant.now) (plain_of lines.now.bytes token.now) }
 {
-    let name = read_name(lines, token)?;
-    let place = place_of(&plant.switches, &name)?;
+    let Some(name) = read_name(lines, token) else {
+        return None;
+    };
+    let Some(place) = place_of(&plant.switches, &name) else {
+        return None;
+    };
     if !is_uncontrollable(plant.switches[place].side) {
         return None;
     }

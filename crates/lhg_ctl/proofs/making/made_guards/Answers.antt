@@ -1,4 +1,4 @@
-use Rattle.std.proofs.Common.{◌<◌, ℕ, length, map, subst, sym, ap, ◌∙◌}
+use Rattle.std.proofs.Common.{◌<◌, arith, ℕ, length, map, subst, sym, ap, ◌∙◌}
 use Rattle.std.specs.Global.{Vec}
 use Rattle.lhg_row.specs.Row.{PlainRow}
 use Rattle.lhg_row.specs.Width.{AllWide}
@@ -6,24 +6,32 @@ use Rattle.lhg_plant.specs.Views.{plain_plant}
 use Rattle.lhg_union.specs.Regions.{plain_region}
 use Rattle.lhg_row_text.proofs.Members.{all_map_at}
 use Rattle.lhg_ctl.specs.DraftStates.{IsPlaced}
-use Rattle.lhg_ctl.specs.Making.{source_at, line_made, all_made}
+use Rattle.lhg_ctl.specs.Making.{source_at, line_at, line_made, all_made}
 use Rattle.lhg_ctl.specs.Views.{plain_placed}
 use Rattle.lhg_ctl.proofs.MakingSteps.{line_rest, line_is, end_rest}
 use Rattle.lhg_ctl.proofs.making.made_guards.Goals as goal
 
-pub returns : goal.returns
-returns c =
+pub returns-clause-calculus : goal.returns-clause-calculus
+returns-clause-calculus c =
     let a = plain_plant c.args.plant.now in
     end_rest a (source_at a) (all_made a (source_at a) (length c.args.plant.now.switches.items) (map plain_placed c.args.guards.now)) c.args.guards.now c.loop-i.i (plain_region c.loop-i.lists.pieces.items) c.loop-i-test.false c.loop-i.invariant.rest
 
-pub put_guard-requires-clause-place : goal.put_guard-requires-clause-place
-put_guard-requires-clause-place c =
+pub source-requires : goal.source-requires
+source-requires c =
     let n = length c.args.plant.now.vars.items in
     let m = length c.args.plant.now.switches.items in
     subst (λ (x : ℕ × Vec PlainRow). x.0 < m) c.index-guards-i.is (all_map_at (IsPlaced n m) plain_placed c.args.guards.now c.loop-i.i c.index-guards-i.result c.requires c.loop-i-test.true c.index-guards-i.is).place
 
-pub put_guard-requires-clause-rows : goal.put_guard-requires-clause-rows
-put_guard-requires-clause-rows c =
+pub put_line-requires-clause-place : goal.put_line-requires-clause-place
+put_line-requires-clause-place c =
+    let n = length c.args.plant.now.vars.items in
+    let m = length c.args.plant.now.switches.items in
+    let below = subst (λ (x : ℕ × Vec PlainRow). x.0 < m) c.index-guards-i.is (all_map_at (IsPlaced n m) plain_placed c.args.guards.now c.loop-i.i c.index-guards-i.result c.requires c.loop-i-test.true c.index-guards-i.is).place in
+    let count = c.loop-i.invariant.count in
+    omega (arith, below, count)
+
+pub put_line-requires-clause-rows : goal.put_line-requires-clause-rows
+put_line-requires-clause-rows c =
     let n = length c.args.plant.now.vars.items in
     let m = length c.args.plant.now.switches.items in
     subst (AllWide n) (sym (c.deref.ensures.value ∙ ap (λ (w : ℕ × Vec PlainRow). w.1.items) (sym c.index-guards-i-in-loop-i.is))) (all_map_at (IsPlaced n m) plain_placed c.args.guards.now c.loop-i.i c.index-guards-i-in-loop-i.result c.requires c.loop-i-test.true c.index-guards-i-in-loop-i.is).wide
@@ -35,7 +43,8 @@ loop-i-preserved c =
     let x = c.index-guards-i.result in
     let whole = all_made a (source_at a) (length c.args.plant.now.switches.items) (map plain_placed c.args.guards.now) in
     record {
-      rest = line_rest a (source_at a) whole c.args.guards.now c.loop-i.i x c.index-guards-i.is c.loop-i-test.true lists c.loop-i.invariant.rest (plain_region c.put_guard.new.lists.pieces.items)
-          (c.in_ok-put_guard.ensures.calculus ∙ ap (λ p. (line_made a (source_at a) lists p).value) (line_is c.args.guards.now c.loop-i.i x c.index-guards-i-in-loop-i.result c.deref.result.now c.loop-i-test.true c.index-guards-i.is c.index-guards-i-in-loop-i.is (c.deref.ensures.value ∙ ap (λ (w : ℕ × Vec PlainRow). w.1.items) (sym c.index-guards-i-in-loop-i.is))));
-      count = c.in_ok-put_guard.ensures.count ∙ c.loop-i.invariant.count;
+      rest = line_rest a (source_at a) whole c.args.guards.now c.loop-i.i x c.index-guards-i.is c.loop-i-test.true lists c.loop-i.invariant.rest (plain_region c.put_line.new.lists.pieces.items)
+          (c.in_ok-put_line.ensures.calculus ∙ ap (λ (l : ℕ). (line_at a l lists _).value) c.source.ensures.source ∙ ap (λ p. (line_made a (source_at a) lists p).value) (line_is c.args.guards.now c.loop-i.i x c.index-guards-i-in-loop-i.result c.deref.result.now c.loop-i-test.true c.index-guards-i.is c.index-guards-i-in-loop-i.is (c.deref.ensures.value ∙ ap (λ (w : ℕ × Vec PlainRow). w.1.items) (sym c.index-guards-i-in-loop-i.is))));
+      vars = c.in_ok-put_line.ensures.vars;
+      count = c.in_ok-put_line.ensures.count ∙ c.loop-i.invariant.count;
     }

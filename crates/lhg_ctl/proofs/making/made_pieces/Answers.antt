@@ -1,4 +1,4 @@
-use Rattle.std.proofs.Common.{◌<◌, ℕ, length, map, subst, sym, ap, ◌∙◌}
+use Rattle.std.proofs.Common.{◌<◌, arith, ℕ, length, map, subst, sym, ap, ◌∙◌}
 use Rattle.std.specs.Global.{Vec}
 use Rattle.lhg_row.specs.Row.{PlainRow}
 use Rattle.lhg_row.specs.Width.{AllWide}
@@ -11,19 +11,27 @@ use Rattle.lhg_ctl.specs.Views.{plain_placed}
 use Rattle.lhg_ctl.proofs.MakingSteps.{line_rest, line_is, end_rest}
 use Rattle.lhg_ctl.proofs.making.made_pieces.Goals as goal
 
-pub returns : goal.returns
-returns c =
+pub returns-clause-calculus : goal.returns-clause-calculus
+returns-clause-calculus c =
     let a = plain_plant c.args.plant.now in
     end_rest a (λ x. x) (all_made a (λ x. x) (length c.args.plant.now.locs.items) (map plain_placed c.args.pieces.now)) c.args.pieces.now c.loop-i.i (plain_region c.loop-i.lists.pieces.items) c.loop-i-test.false c.loop-i.invariant.rest
 
-pub put_piece-requires-clause-place : goal.put_piece-requires-clause-place
-put_piece-requires-clause-place c =
+pub put_line-requires-clause-location : goal.put_line-requires-clause-location
+put_line-requires-clause-location c =
     let n = length c.args.plant.now.vars.items in
     let m = length c.args.plant.now.locs.items in
     subst (λ (x : ℕ × Vec PlainRow). x.0 < m) c.index-pieces-i.is (all_map_at (IsPlaced n m) plain_placed c.args.pieces.now c.loop-i.i c.index-pieces-i.result c.requires c.loop-i-test.true c.index-pieces-i.is).place
 
-pub put_piece-requires-clause-rows : goal.put_piece-requires-clause-rows
-put_piece-requires-clause-rows c =
+pub put_line-requires-clause-place : goal.put_line-requires-clause-place
+put_line-requires-clause-place c =
+    let n = length c.args.plant.now.vars.items in
+    let m = length c.args.plant.now.locs.items in
+    let below = subst (λ (x : ℕ × Vec PlainRow). x.0 < m) c.index-pieces-i.is (all_map_at (IsPlaced n m) plain_placed c.args.pieces.now c.loop-i.i c.index-pieces-i.result c.requires c.loop-i-test.true c.index-pieces-i.is).place in
+    let count = c.loop-i.invariant.count in
+    omega (arith, below, count)
+
+pub put_line-requires-clause-rows : goal.put_line-requires-clause-rows
+put_line-requires-clause-rows c =
     let n = length c.args.plant.now.vars.items in
     let m = length c.args.plant.now.locs.items in
     subst (AllWide n) (sym (c.deref.ensures.value ∙ ap (λ (w : ℕ × Vec PlainRow). w.1.items) (sym c.index-pieces-i-in-loop-i.is))) (all_map_at (IsPlaced n m) plain_placed c.args.pieces.now c.loop-i.i c.index-pieces-i-in-loop-i.result c.requires c.loop-i-test.true c.index-pieces-i-in-loop-i.is).wide
@@ -35,7 +43,8 @@ loop-i-preserved c =
     let x = c.index-pieces-i.result in
     let whole = all_made a (λ x. x) (length c.args.plant.now.locs.items) (map plain_placed c.args.pieces.now) in
     record {
-      rest = line_rest a (λ x. x) whole c.args.pieces.now c.loop-i.i x c.index-pieces-i.is c.loop-i-test.true lists c.loop-i.invariant.rest (plain_region c.put_piece.new.lists.pieces.items)
-          (c.in_ok-put_piece.ensures.calculus ∙ ap (λ p. (line_made a (λ x. x) lists p).value) (line_is c.args.pieces.now c.loop-i.i x c.index-pieces-i-in-loop-i.result c.deref.result.now c.loop-i-test.true c.index-pieces-i.is c.index-pieces-i-in-loop-i.is (c.deref.ensures.value ∙ ap (λ (w : ℕ × Vec PlainRow). w.1.items) (sym c.index-pieces-i-in-loop-i.is))));
-      count = c.in_ok-put_piece.ensures.count ∙ c.loop-i.invariant.count;
+      rest = line_rest a (λ x. x) whole c.args.pieces.now c.loop-i.i x c.index-pieces-i.is c.loop-i-test.true lists c.loop-i.invariant.rest (plain_region c.put_line.new.lists.pieces.items)
+          (c.in_ok-put_line.ensures.calculus ∙ ap (λ p. (line_made a (λ x. x) lists p).value) (line_is c.args.pieces.now c.loop-i.i x c.index-pieces-i-in-loop-i.result c.deref.result.now c.loop-i-test.true c.index-pieces-i.is c.index-pieces-i-in-loop-i.is (c.deref.ensures.value ∙ ap (λ (w : ℕ × Vec PlainRow). w.1.items) (sym c.index-pieces-i-in-loop-i.is))));
+      vars = c.in_ok-put_line.ensures.vars;
+      count = c.in_ok-put_line.ensures.count ∙ c.loop-i.invariant.count;
     }
