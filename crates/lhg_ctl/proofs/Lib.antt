@@ -2,6 +2,7 @@ pub mod ControllerLawProofs
 pub mod ControllerMachine
 pub mod ControllerRuns
 pub mod Counting
+pub mod DraftLines
 pub mod GivenDrafts
 pub mod GuardNames
 pub mod GuardSteps

@@ -1,9 +1,9 @@
 -- The text of a draft is a controller of the grammar, whose value is the draft.
-use Rattle.std.proofs.Common.{◌≡◌, ◌≤◌, ◌+◌, ◌-◌, ℕ, zero, suc, List, [], ◌∷◌, ◌++◌, length, map, refl, sym, ap, ◌∙◌, subst, Bool, true, false, cond, ◌&&◌, not, ◌==◌, Option, Some, None, Ok, arith, nat_le, le-leb, codes, decimal, append-nil}
-use Rattle.std.specs.Prelude.{ℤ, pos, ◌*ℤ◌}
+use Rattle.std.proofs.Common.{◌≡◌, ◌≤◌, ◌+◌, ◌-◌, ◌*◌, ℕ, List, [], ◌∷◌, ◌++◌, length, map, refl, sym, ap, ◌∙◌, subst, Bool, true, false, cond, ◌&&◌, not, ◌==◌, Option, Some, None, Ok, arith, nat_le, le-leb, codes, decimal, append-nil}
+use Rattle.std.specs.Prelude.{ℤ, pos, ◌*ℤ◌, nat_lt}
+use Rattle.std.proofs.lemmas.Bool.Decides.{nat_tests}
 use Rattle.std.specs.Int.RustNames.{int_lt, unsigned_abs}
 use Rattle.std.specs.Option.{option_and_then, option_map}
-use Rattle.lhg_math.specs.Integers.{int_lt-mul, int_lt-no}
 use Rattle.lhg_math.specs.Inverses.{whole_parts}
 use Rattle.lhg_math.specs.Number.{whole, lt, nought}
 use Rattle.lhg_math.specs.Tests.{AllOf}
@@ -78,7 +78,10 @@ rounds_tokens n few = line_says (rounds_say n few)
 
 not_below : (n : ℕ) → lt (whole (pos n)) nought ≡ false
 unfolding lt nought
-not_below n = rw ((whole_parts (pos n)).0, (whole_parts (pos n)).1, (whole_parts (pos 0)).0, (whole_parts (pos 0)).1) (int_lt-mul (pos n) (pos 0) 1 (omega arith) ∙ int_lt-no (pos n) (pos 0) (omega arith))
+not_below n = rw ((whole_parts (pos n)).0, (whole_parts (pos n)).1, (whole_parts (pos 0)).0, (whole_parts (pos 0)).1) (above (n * 1))
+  where
+    above : (m : ℕ) → nat_lt m 0 ≡ false
+    above m = grind (arith, nat_tests)
 
 -- and they say the number
 rounds_read : (a : PlainPlant) (n : ℕ) → n ≤ most_rounds → line_in Second a (rounds_spots n 0) ≡ Some (rounds n)

@@ -19,8 +19,8 @@ mod reading;
 mod tests;
 mod versions;
 
-pub use controllers::{Controller, Draft};
 pub use controller_lines::MOST_ROUNDS;
+pub use controllers::{Controller, Draft};
 pub use draft_printing::print_draft;
 pub use entries::Entry;
 pub use logs::read_log;

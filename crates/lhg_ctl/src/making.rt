@@ -128,8 +128,8 @@ fn made_guards(
     let mut lists = empty_lists(alloc, plant.switches.len())?;
     for i in 0..guards.len() {
         let place = guards[i].0;
-        let source = source(plant, place);
-        put_line(alloc, plant, &mut lists, source, place, &guards[i].1)?;
+        let from = source(plant, place);
+        put_line(alloc, plant, &mut lists, from, place, &guards[i].1)?;
     }
     Ok(lists)
 }

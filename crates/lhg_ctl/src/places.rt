@@ -81,7 +81,7 @@ pub(crate) fn controllable_named(lines: &Lines, plant: &Plant, token: &Token) ->
 pub(crate) fn uncontrollable_named(lines: &Lines, plant: &Plant, token: &Token) -> Option<u32>
     requires span { IsSpan lines.now.bytes token.now }
     requires word { IsLexed (plain_of lines.now.bytes token.now) }
-    ensures place { result ≡ switch_in is_uncontrollable (plain_plant plant.now) (plain_of lines.now.bytes token.now) }
+    ensures { result ≡ switch_in is_uncontrollable (plain_plant plant.now) (plain_of lines.now.bytes token.now) }
 {
     let Some(name) = read_name(lines, token) else {
         return None;

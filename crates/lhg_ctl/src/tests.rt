@@ -16,11 +16,13 @@ type Stop = u32;
 fn stop_in(answer: Result<(), ReadStop>) -> Stop {
     match answer {
         Ok(()) => 0,
-        Err(ReadStop::Bad {
-            line,
-            column: 0,
-            what: What::NotHere,
-        }) => line,
+        Err(
+            ReadStop::Bad {
+                line,
+                column: 0,
+                what: What::NotHere,
+            },
+        ) => line,
         Err(_) => 1000,
     }
 }
@@ -55,9 +57,15 @@ fn thermostat(alloc: Global) -> Result<Plant, Fail> {
 const CONTROLLERS: [(&[u8], Stop); 21] = [
     (b"controller 1\nend\n", 0),
     (b"\ncontroller 1 # first\n\nend\n\n", 0),
-    (b"controller 1\npiece heat x >= 18\npiece heat all\npiece cool x < 3\nguard on x > 2, x < 3\nguard off all\nend\n", 0),
+    (
+        b"controller 1\npiece heat x >= 18\npiece heat all\npiece cool x < 3\nguard on x > 2, x < 3\nguard off all\nend\n",
+        0,
+    ),
     (b"controller 2\nrounds 0\nend\n", 0),
-    (b"controller 2\nrounds 1000\npiece heat all\nguard off g1 all\nguard off g2 x = 1\nend\n", 0),
+    (
+        b"controller 2\nrounds 1000\npiece heat all\nguard off g1 all\nguard off g2 x = 1\nend\n",
+        0,
+    ),
     (b"controller 3\nend\n", 1),
     (b"controller 01\nend\n", 1),
     (b"controller 1.0\nend\n", 1),
@@ -70,7 +78,10 @@ const CONTROLLERS: [(&[u8], Stop); 21] = [
     (b"controller 1\nguard off all\npiece heat all\nend\n", 3),
     (b"controller 1\npiece heat all\nguard fall all\nend\n", 3),
     (b"controller 1\npiece warm all\nend\n", 2),
-    (b"controller 2\nrounds 0\nguard off g all\nguard on g all\nend\n", 4),
+    (
+        b"controller 2\nrounds 0\nguard off g all\nguard on g all\nend\n",
+        4,
+    ),
     (b"controller 2\nrounds 0\nguard off all\nend\n", 3),
     (b"controller 1\npiece heat x' > 1\nend\n", 2),
     (b"controller 1\npiece heat all\n", 3),
@@ -78,7 +89,10 @@ const CONTROLLERS: [(&[u8], Stop); 21] = [
 
 const LOGS: [(&[u8], Stop); 9] = [
     (b"start heat x = 20\nend\n", 0),
-    (b"start heat x = 20\nflow 1/2 x = 21\nflow -1 x = -3\nenv fall x = 21\nland x == 21\nend\n", 0),
+    (
+        b"start heat x = 20\nflow 1/2 x = 21\nflow -1 x = -3\nenv fall x = 21\nland x == 21\nend\n",
+        0,
+    ),
     (b"start warm x = 20\nend\n", 1),
     (b"start heat x = 20\nenv off x = 21\nend\n", 2),
     (b"start heat x = 20\nflow x = 21\nend\n", 2),
@@ -92,7 +106,11 @@ const LOGS: [(&[u8], Stop); 9] = [
 fn texts_are_read_or_refused(rt: HostRuntime) -> Result<(), Fail> {
     let plant = thermostat(rt.alloc())?;
     for (text, line) in &CONTROLLERS {
-        assert_eq!(rt; controller_stop(rt.alloc(), &plant, text), *line, "of {text:?}");
+        assert_eq!(rt;
+            controller_stop(rt.alloc(), &plant, text),
+            *line,
+            "of {text:?}"
+        );
     }
     for (text, line) in &LOGS {
         assert_eq!(rt; log_stop(rt.alloc(), &plant, text), *line, "of {text:?}");

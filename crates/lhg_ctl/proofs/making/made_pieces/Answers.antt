@@ -1,5 +1,6 @@
-use Rattle.std.proofs.Common.{◌<◌, arith, ℕ, length, map, subst, sym, ap, ◌∙◌}
+use Rattle.std.proofs.Common.{◌≡◌, ◌<◌, arith, ℕ, List, [], replicate, rules, length, map, subst, sym, ap, ◌∙◌}
 use Rattle.std.specs.Global.{Vec}
+use Rattle.lhg_row.specs.Piece.{PlainPiece}
 use Rattle.lhg_row.specs.Row.{PlainRow}
 use Rattle.lhg_row.specs.Width.{AllWide}
 use Rattle.lhg_plant.specs.Views.{plain_plant}
@@ -8,7 +9,7 @@ use Rattle.lhg_row_text.proofs.Members.{all_map_at}
 use Rattle.lhg_ctl.specs.DraftStates.{IsPlaced}
 use Rattle.lhg_ctl.specs.Making.{line_made, all_made}
 use Rattle.lhg_ctl.specs.Views.{plain_placed}
-use Rattle.lhg_ctl.proofs.MakingSteps.{line_rest, line_is, end_rest}
+use Rattle.lhg_ctl.proofs.MakingSteps.{start_rest, start_count, over_empty, line_rest, line_is, end_rest}
 use Rattle.lhg_ctl.proofs.making.made_pieces.Goals as goal
 
 pub returns-clause-calculus : goal.returns-clause-calculus
@@ -47,4 +48,16 @@ loop-i-preserved c =
           (c.in_ok-put_line.ensures.calculus ∙ ap (λ p. (line_made a (λ x. x) lists p).value) (line_is c.args.pieces.now c.loop-i.i x c.index-pieces-i-in-loop-i.result c.deref.result.now c.loop-i-test.true c.index-pieces-i.is c.index-pieces-i-in-loop-i.is (c.deref.ensures.value ∙ ap (λ (w : ℕ × Vec PlainRow). w.1.items) (sym c.index-pieces-i-in-loop-i.is))));
       vars = c.in_ok-put_line.ensures.vars;
       count = c.in_ok-put_line.ensures.count ∙ c.loop-i.invariant.count;
+    }
+
+pub loop-i-init : goal.loop-i-init
+loop-i-init c =
+    let a = plain_plant c.args.plant.now in
+    let n : c.len.result ≡ length c.args.plant.now.locs.items = search rules in
+    let empty = c.in_ok-lists.ensures ∙ ap (λ (k : ℕ). replicate k (let ps : List PlainPiece = [] in ps)) n in
+    let lists = c.in_ok-lists.lists.pieces.items in
+    record {
+      rest = start_rest a (λ x. x) (length c.args.plant.now.locs.items) (plain_region lists) (map plain_placed c.args.pieces.now) empty;
+      vars = over_empty (length c.args.plant.now.vars.items) lists (length c.args.plant.now.locs.items) empty;
+      count = start_count lists (length c.args.plant.now.locs.items) empty;
     }

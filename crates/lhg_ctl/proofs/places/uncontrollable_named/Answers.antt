@@ -6,22 +6,22 @@ use Rattle.lhg_ctl.specs.ControllerLine.{is_uncontrollable, if_of}
 use Rattle.lhg_ctl.proofs.LineSteps.{switch_found, side_at}
 use Rattle.lhg_ctl.proofs.places.uncontrollable_named.Goals as goal
 
-pub returns-in_default-place_of-clause-place : goal.returns-in_default-place_of-clause-place
-returns-in_default-place_of-clause-place c =
+pub returns-in_default-place_of : goal.returns-in_default-place_of
+returns-in_default-place_of c =
     let p = plain_plant c.args.plant.now in
     sym (switch_found is_uncontrollable p (plain_of c.args.lines.now.bytes c.args.token.now) c.in-Some.name c.deref.result.now _ (sym c.read_name.ensures ∙ c.in-Some.is) (ap (map plain_switch) c.deref.ensures.value) c.place_of.ensures.place
     ∙ ap (option_and_then (if_of is_uncontrollable p)) c.in_default-place_of.is)
 
-pub returns-then-not-is_uncontrollable-clause-place : goal.returns-then-not-is_uncontrollable-clause-place
-returns-then-not-is_uncontrollable-clause-place c =
+pub returns-then-not-is_uncontrollable : goal.returns-then-not-is_uncontrollable
+returns-then-not-is_uncontrollable c =
     let p = plain_plant c.args.plant.now in
     let k = c.in-Some-place_of.place in
     let side = side_at is_uncontrollable c.args.plant.now.switches.items k c.index.result.now (subst (λ xs. k < length xs) c.deref.ensures.value c.in-Some-place_of.ensures.below) c.index.ensures in
     sym (switch_found is_uncontrollable p (plain_of c.args.lines.now.bytes c.args.token.now) c.in-Some.name c.deref.result.now _ (sym c.read_name.ensures ∙ c.in-Some.is) (ap (map plain_switch) c.deref.ensures.value) c.place_of.ensures.place
     ∙ ap (option_and_then (if_of is_uncontrollable p)) c.in-Some-place_of.is ∙ ap (λ b. cond b (Some k) None) (side ∙ sym c.is_uncontrollable.ensures ∙ c.if-not-is_uncontrollable.true))
 
-pub returns-clause-place : goal.returns-clause-place
-returns-clause-place c =
+pub returns : goal.returns
+returns c =
     let p = plain_plant c.args.plant.now in
     let k = c.in-Some-place_of.place in
     let side = side_at is_uncontrollable c.args.plant.now.switches.items k c.index.result.now (subst (λ xs. k < length xs) c.deref.ensures.value c.in-Some-place_of.ensures.below) c.index.ensures in

@@ -14,11 +14,11 @@ returns-in_err-line-clause-err c =
     let p = err_from_is_err_and c.from_residual.result c.from_residual.ensures.1 in
     rw (p.1, p.2) (nothing (plain_plant c.args.plant.now) c.args.lines.now c.in_err-line.field-0.0 c.in_err-line.ensures.stop)
 
-pub returns-in_default-version_of-clause-err : goal.returns-in_default-version_of-clause-err
-returns-in_default-version_of-clause-err c =
+pub returns-in_default-clause-err : goal.returns-in_default-clause-err
+returns-in_default-clause-err c =
     rw c.stop_at.ensures
     (no_head (plain_plant c.args.plant.now) c.args.lines.now c.in_ok-line.line c.needed_line.new.lines c.in_ok-line.ensures.line c.in_ok-line.ensures.read c.deref.result.now c.deref.ensures.value
-    c.version_of.result c.version_of.ensures c.in_default-version_of.is)
+    c.version_of.result c.version_of.ensures c.in_default.is)
 
 pub loop-draft-init : goal.loop-draft-init
 loop-draft-init c = record {
