@@ -1,10 +1,10 @@
 -- Controllers are read line by line.
-use Rattle.std.proofs.Common.{◌≡◌, ℕ, List, [], ◌∷◌, ◌++◌, map, refl, sym, ap, ◌∙◌, subst, true, false, cond, Option, Some, None, Ok, append-nil, codes}
+use Rattle.std.proofs.Common.{◌≡◌, List, [], ◌∷◌, ◌++◌, map, refl, sym, ap, ◌∙◌, subst, true, false, cond, Option, Some, None, Ok, append-nil, codes}
 use Rattle.std.specs.Fmt.{digits}
-use Rattle.std.specs.Option.{option_and_then, option_map}
+use Rattle.std.specs.Option.{option_map}
 use Rattle.std.proofs.lemmas.Option.{none-some, same_Some}
 use Rattle.lhg_math.specs.Gcd.{gcd}
-use Rattle.lhg_math.specs.Number.{unit, whole, ratio, ratio_suc, lt, nought}
+use Rattle.lhg_math.specs.Number.{whole, ratio, ratio_suc, lt, nought}
 use Rattle.lhg_math.specs.Tests.{by_bool}
 use Rattle.lhg_lex.specs.PlainToken.{word, number}
 use Rattle.lhg_lex.specs.Longest.{longest}
@@ -12,13 +12,12 @@ use Rattle.lhg_lex.specs.LineTokens.{Spot, tokens_of}
 use Rattle.lhg_plant.specs.Plant.{PlainPlant}
 use Rattle.lhg_read.specs.Reads.{CanGoOn}
 use Rattle.lhg_read.specs.ReadsLaws.{on_by}
-use Rattle.lhg_ctl.specs.ControllerGrammar.{version_by, version_in, said_lines, IsController, IsSomeController}
+use Rattle.lhg_ctl.specs.ControllerGrammar.{version_in, said_lines, IsController, IsSomeController}
 use Rattle.lhg_ctl.specs.ControllerLine.{controller_line}
 use Rattle.lhg_ctl.specs.ControllerSteps.{PlainOpen, open_with, taken}
 use Rattle.lhg_ctl.specs.Draft.{PlainDraft}
-use Rattle.lhg_ctl.specs.Numbered.{numbered}
 use Rattle.lhg_ctl.specs.declared.versions.Version.{Version}
-use Rattle.lhg_ctl.specs.declared.versions.Version.TheVariants.{First, Second}
+use Rattle.lhg_ctl.specs.declared.versions.Version.TheVariants.{First}
 use Rattle.lhg_ctl.proofs.ControllerRuns.{is_ended, closed_of, taken_as, say_all, draft_run, run_of}
 use Rattle.lhg_ctl.proofs.HeadLine.{head_line, head_tokens, head_some, head_is}
 use Rattle.lhg_ctl.proofs.Machine.{all_taken, IsBegun, IsWhole, IsMachine, begun_first, begun_more}

@@ -8,13 +8,13 @@ use Rattle.std.proofs.lemmas.Option.{none-some, same_Some}
 use Rattle.lhg_math.specs.Tests.{by_bool, false_true}
 use Rattle.lhg_row.specs.Piece.{PlainPiece}
 use Rattle.lhg_lex.specs.LineTokens.{Spot}
-use Rattle.lhg_plant.specs.Differ.{is_among, differ_from, all_differ}
+use Rattle.lhg_plant.specs.Differ.{is_among, differ_from}
 use Rattle.lhg_plant.specs.Plant.{PlainPlant}
 use Rattle.lhg_read.specs.PlantSteps.{is_nil}
 use Rattle.lhg_read.specs.PlantText.{said_in}
 use Rattle.lhg_read.proofs.Collecting.{same_eq}
 use Rattle.lhg_read.proofs.VariableSteps.{differ_more}
-use Rattle.lhg_ctl.specs.ControllerGrammar.{count_at, named_guards, said_rounds, said_guards, said_lines, AreNames}
+use Rattle.lhg_ctl.specs.ControllerGrammar.{count_at, named_guards, said_guards, said_lines, AreNames}
 use Rattle.lhg_ctl.specs.ControllerLine.{ControllerLine, rounds, piece, guard, end, controller_line}
 use Rattle.lhg_ctl.specs.ControllerSteps.{PlainOpen, open_with, fits, is_new, may_piece, may_guard, next_name, with_rounds, with_piece, with_guard, pushed, step, taken}
 use Rattle.lhg_ctl.specs.Draft.{PlainDraft, guard_name, guard_names}

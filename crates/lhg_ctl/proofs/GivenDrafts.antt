@@ -1,5 +1,5 @@
 -- A controller that is read can be made and printed: what its lines say is right.
-use Rattle.std.proofs.Common.{◌≡◌, ◌<◌, ◌≤◌, ◌+◌, ◌⊎◌, inl, inr, ℕ, zero, suc, List, [], ◌∷◌, ◌++◌, length, map, refl, sym, ap, ◌∙◌, subst, Bool, true, false, ◌&&◌, ◌||◌, ◌==◌, Option, Some, None, arith, nat_le, codes, decimal}
+use Rattle.std.proofs.Common.{◌≡◌, ◌<◌, ◌≤◌, ◌+◌, ◌⊎◌, inl, inr, ℕ, zero, suc, List, [], ◌∷◌, ◌++◌, length, map, refl, ap, ◌∙◌, subst, true, false, ◌&&◌, ◌||◌, ◌==◌, Option, Some, None, arith, nat_le, codes, decimal}
 use Rattle.std.specs.Prelude.{slice_get, if◌then◌else◌, ◌^◌}
 use Rattle.std.specs.Option.{option_and_then, option_map}
 use Rattle.std.specs.Str.{bytes_eq}
@@ -14,7 +14,6 @@ use Rattle.lhg_row.specs.Members.{all_split}
 use Rattle.lhg_row.specs.Piece.{PlainPiece}
 use Rattle.lhg_lex.specs.LineTokens.{Spot}
 use Rattle.lhg_lex.specs.PlainToken.{PlainToken}
-use Rattle.lhg_plant.specs.declared.plants.Side.{Side}
 use Rattle.lhg_plant.specs.Differ.{is_among, all_differ}
 use Rattle.lhg_plant.specs.Plant.{PlainPlant}
 use Rattle.lhg_plant.specs.Proper.{IsProper}
@@ -30,9 +29,9 @@ use Rattle.lhg_read.proofs.LineRows.{rows_read}
 use Rattle.lhg_read.proofs.PairSteps.{place_below}
 use Rattle.lhg_read.proofs.VariableSteps.{differ_more}
 use Rattle.lhg_ctl.specs.ControllerGrammar.{said_rounds, named_guards, said_guards, said_lines, AreNames, IsController}
-use Rattle.lhg_ctl.specs.ControllerLine.{ControllerLine, rounds, piece, guard, end, most_rounds, is_controllable, is_of, if_of, switch_in, placed_rows, guard_of, named_guard, guard_by, alone, controller_by, rounds_line, controller_line}
+use Rattle.lhg_ctl.specs.ControllerLine.{ControllerLine, rounds, piece, guard, end, most_rounds, is_controllable, is_of, switch_in, placed_rows, guard_of, named_guard, guard_by, alone, controller_by, rounds_line, controller_line}
 use Rattle.lhg_ctl.specs.Draft.{PlainDraft, guard_name, guard_names}
-use Rattle.lhg_ctl.specs.DraftStates.{IsPlaced, IsOfController, IsDraft, IsGiven, IsGivenDraft}
+use Rattle.lhg_ctl.specs.DraftStates.{IsPlaced, IsOfController, IsGiven, IsGivenDraft}
 use Rattle.lhg_ctl.specs.Numbered.{natural_in, in_digits, numbered}
 use Rattle.lhg_ctl.specs.declared.versions.Version.{Version}
 use Rattle.lhg_ctl.specs.declared.versions.Version.TheVariants.{First, Second}

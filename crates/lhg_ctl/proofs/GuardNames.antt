@@ -1,5 +1,5 @@
 -- The name of a guard that is written without one is a name.
-use Rattle.std.proofs.Common.{◌≡◌, ◌<◌, ◌≤◌, ◌+◌, ℕ, suc, List, [], ◌∷◌, ◌++◌, length, refl, ap, ◌∙◌, Bool, true, false, ◌&&◌, arith, codes, decimal}
+use Rattle.std.proofs.Common.{◌≡◌, ◌<◌, ℕ, List, [], ◌∷◌, refl, true, arith, decimal}
 use Rattle.std.specs.Prelude.{◌^◌}
 use Rattle.std.specs.Char.{digit_value}
 use Rattle.std.specs.List.{list_all}

@@ -1,5 +1,5 @@
 -- A guard comes by its name, which is its own or that of its number.
-use Rattle.std.proofs.Common.{◌≡◌, ◌+◌, ℕ, List, length, refl, sym, ap, ◌∙◌, Bool, true, false, ◌&&◌, not, cond, Option, Some, None}
+use Rattle.std.proofs.Common.{◌≡◌, ◌+◌, ℕ, List, length, refl, sym, ap, ◌∙◌, Bool, true, false, ◌&&◌, not, cond, Some, None}
 use Rattle.lhg_row.specs.Piece.{PlainPiece}
 use Rattle.lhg_plant.specs.Differ.{is_among}
 use Rattle.lhg_ctl.specs.ControllerLine.{guard}

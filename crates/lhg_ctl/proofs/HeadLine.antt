@@ -9,7 +9,6 @@ use Rattle.lhg_lex.specs.Longest.{longest}
 use Rattle.lhg_lex.specs.PlainToken.{word, number}
 use Rattle.lhg_read.specs.TokenText.{token_line}
 use Rattle.lhg_ctl.specs.ControllerGrammar.{version_in}
-use Rattle.lhg_ctl.specs.Numbered.{numbered}
 use Rattle.lhg_ctl.specs.declared.versions.Version.TheVariants.{First, Second}
 
 -- the tokens of the head of version 1

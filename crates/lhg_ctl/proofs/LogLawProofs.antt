@@ -1,15 +1,14 @@
 -- A text has one log at most.
-use Rattle.std.proofs.Common.{◌≡◌, List, [], ◌∷◌, map, refl, sym, ap, ◌∙◌, subst, Option, Some}
+use Rattle.std.proofs.Common.{◌≡◌, List, [], ◌∷◌, map, refl, sym, ap, ◌∙◌, subst, Some}
 use Rattle.std.proofs.lemmas.Option.{same_Some}
 use Rattle.lhg_lex.specs.LineTokens.{Spot}
 use Rattle.lhg_lex.proofs.FirstBadProofs.{none_bad, one_bad}
 use Rattle.lhg_plant.specs.Plant.{PlainPlant}
 use Rattle.lhg_plant.specs.Run.{PlainEntry}
-use Rattle.lhg_plant.specs.State.{PlainState}
 use Rattle.lhg_read.specs.PlantText.{said_in}
 use Rattle.lhg_read.proofs.TextLawProofs.{same_tokens}
 use Rattle.lhg_ctl.specs.LogLaws.{LogLaws}
-use Rattle.lhg_ctl.specs.LogText.{PlainLog, LogLine, entry, end, log_line, start_line, said_entries, IsLog, IsSomeLogText}
+use Rattle.lhg_ctl.specs.LogText.{PlainLog, log_line, start_line, said_entries, IsLog, IsSomeLogText}
 
 same_lines : (a b : List Spot) (xs ys : List (List Spot)) → a ∷ xs ≡ b ∷ ys → (a ≡ b) × (xs ≡ ys)
 same_lines a b xs ys e = (cc, cc)

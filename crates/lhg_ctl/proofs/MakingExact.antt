@@ -18,10 +18,9 @@ use Rattle.lhg_row.specs.WidthLaws.{append-wide}
 use Rattle.lhg_num.specs.Marked.{walk}
 use Rattle.lhg_plant.specs.Plant.{PlainLocation, PlainSwitch, PlainPlant}
 use Rattle.lhg_plant.specs.Proper.{IsLocation, IsProper}
-use Rattle.lhg_plant.specs.State.{IsState}
 use Rattle.lhg_read.proofs.Collecting.{same_eq}
 use Rattle.lhg_ctl.specs.DraftStates.{HoldsAt, IsPlaced}
-use Rattle.lhg_ctl.specs.Making.{put, inv_in, inv_at, source_in, source_at, line_made, all_made, controller_of}
+use Rattle.lhg_ctl.specs.Making.{put, inv_in, inv_at, source_in, line_made, all_made}
 
 -- ---- one line
 

@@ -1,5 +1,5 @@
 -- The lists that are made of lines hold pieces inside the invariants.
-use Rattle.std.proofs.Common.{◌≡◌, ◌≢◌, ◌<◌, ℕ, zero, suc, List, [], ◌∷◌, ◌++◌, length, get_or, set, replicate, refl, sym, ap, ◌∙◌, subst, Bool, true, false, ◌==◌, ◌&&◌, Option, Some, None, eqb-true, ne_eqb, arith}
+use Rattle.std.proofs.Common.{◌≡◌, ◌≢◌, ◌<◌, ℕ, zero, suc, List, [], ◌∷◌, ◌++◌, length, get_or, set, replicate, refl, sym, ap, ◌∙◌, subst, true, ◌==◌, ◌&&◌, Option, Some, None, eqb-true, arith}
 use Rattle.std.specs.Prelude.{slice_get, IfSome, IsSomeAnd}
 use Rattle.std.proofs.lemmas.Bool.{and_parts}
 use Rattle.std.proofs.lemmas.List.{get_or-set_same, get_or-set_other}
@@ -15,8 +15,7 @@ use Rattle.lhg_row.specs.PieceLemmas.{in_piece_is}
 use Rattle.lhg_row.specs.Pieces.{make}
 use Rattle.lhg_row.specs.Row.{PlainPoint}
 use Rattle.lhg_row.specs.WidthLaws.{append-wide}
-use Rattle.lhg_plant.specs.declared.plants.Side.{Side}
-use Rattle.lhg_plant.specs.declared.plants.Side.TheVariants.{Ctl, Env, Pick}
+use Rattle.lhg_plant.specs.declared.plants.Side.TheVariants.{Env}
 use Rattle.lhg_plant.specs.Inside.{AllInside}
 use Rattle.lhg_plant.specs.Plant.{PlainLocation, PlainSwitch, PlainPlant}
 use Rattle.lhg_plant.specs.Proper.{IsProper, IsSwitch}

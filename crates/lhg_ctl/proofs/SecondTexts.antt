@@ -1,15 +1,14 @@
 -- The text of a draft is a controller of the grammar, whose value is the draft.
-use Rattle.std.proofs.Common.{◌≡◌, ◌≤◌, ◌+◌, ◌-◌, ◌*◌, ℕ, List, [], ◌∷◌, ◌++◌, length, map, refl, sym, ap, ◌∙◌, subst, Bool, true, false, cond, ◌&&◌, not, ◌==◌, Option, Some, None, Ok, arith, nat_le, le-leb, codes, decimal, append-nil}
-use Rattle.std.specs.Prelude.{ℤ, pos, ◌*ℤ◌, nat_lt}
+use Rattle.std.proofs.Common.{◌≡◌, ◌≤◌, ◌+◌, ◌-◌, ◌*◌, ℕ, List, [], ◌∷◌, ◌++◌, length, map, refl, sym, ap, ◌∙◌, subst, false, cond, ◌&&◌, not, ◌==◌, Some, None, Ok, arith, le-leb, codes, decimal, append-nil}
+use Rattle.std.specs.Prelude.{ℤ, pos, nat_lt}
 use Rattle.std.proofs.lemmas.Bool.Decides.{nat_tests}
-use Rattle.std.specs.Int.RustNames.{int_lt, unsigned_abs}
+use Rattle.std.specs.Int.RustNames.{unsigned_abs}
 use Rattle.std.specs.Option.{option_and_then, option_map}
 use Rattle.lhg_math.specs.Inverses.{whole_parts}
 use Rattle.lhg_math.specs.Number.{whole, lt, nought}
 use Rattle.lhg_math.specs.Tests.{AllOf}
 use Rattle.lhg_row.specs.Piece.{PlainPiece}
 use Rattle.lhg_lex.specs.Lines.{lines_of}
-use Rattle.lhg_lex.specs.Longest.{IsLongest}
 use Rattle.lhg_lex.specs.LineTokens.{Spot, taken, tokens_from, tokens_of}
 use Rattle.lhg_lex.specs.PlainToken.{PlainToken, word, number}
 use Rattle.lhg_lex.specs.Token.{said}
@@ -25,16 +24,16 @@ use Rattle.lhg_read.specs.Options.{joined}
 use Rattle.lhg_read.specs.TokenText.{token_line, token_lines}
 use Rattle.lhg_read.proofs.Collecting.{same_eq}
 use Rattle.lhg_row_text.specs.Short.{AllShort}
-use Rattle.lhg_row_text.proofs.LineText.{Says, IsToken, is_inner, says_end, says_space, says_token, line_says}
+use Rattle.lhg_row_text.proofs.LineText.{Says, IsToken, line_says}
 use Rattle.lhg_row_text.proofs.LinesBack.{IsInner, lines_back}
 use Rattle.lhg_row_text.proofs.NumberTokens.{decimal_token}
 use Rattle.lhg_row_text.proofs.TokenKinds.{word_token}
-use Rattle.lhg_ctl.specs.ControllerGrammar.{said_lines, named_guards, IsControllerText}
-use Rattle.lhg_ctl.specs.ControllerLine.{ControllerLine, rounds, piece, end, most_rounds, rounds_line, controller_line}
+use Rattle.lhg_ctl.specs.ControllerGrammar.{IsControllerText}
+use Rattle.lhg_ctl.specs.ControllerLine.{ControllerLine, rounds, most_rounds, controller_line}
 use Rattle.lhg_ctl.specs.ControllerText.{piece_line, named_guard_lines, rounds_text, second_lines, second_text}
 use Rattle.lhg_ctl.specs.Draft.{PlainDraft}
 use Rattle.lhg_ctl.specs.DraftStates.{IsPlaced, IsGiven, IsGivenDraft}
-use Rattle.lhg_ctl.specs.Numbered.{natural_in, in_digits, numbered}
+use Rattle.lhg_ctl.specs.Numbered.{natural_in, in_digits}
 use Rattle.lhg_ctl.specs.declared.versions.Version.TheVariants.{Second}
 use Rattle.lhg_ctl.proofs.ControllerRuns.{line_in}
 use Rattle.lhg_ctl.proofs.HeadLine.{second_line, second_tokens, second_some, second_is}

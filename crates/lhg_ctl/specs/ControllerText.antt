@@ -1,9 +1,9 @@
 -- How is a controller printed?
-use Rattle.std.specs.Prelude.{ℕ, List, [], ◌∷◌, ◌++◌, codes, decimal, map, Option, Some, None, slice_get}
+use Rattle.std.specs.Prelude.{ℕ, List, [], ◌∷◌, ◌++◌, codes, decimal, map, slice_get}
 use Rattle.std.specs.List.{flat_map}
 use Rattle.lhg_row.specs.Piece.{PlainPiece}
 use Rattle.lhg_plant.specs.Controller.{PlainController}
-use Rattle.lhg_plant.specs.Plant.{PlainPlant, PlainSwitch}
+use Rattle.lhg_plant.specs.Plant.{PlainPlant}
 use Rattle.lhg_row_text.specs.PrintedLine.{line, spaced, location_name, switch_name}
 use Rattle.lhg_row_text.specs.RowText.{rows_text}
 use Rattle.lhg_ctl.specs.Draft.{PlainDraft, draft_of}

@@ -1,5 +1,5 @@
 -- Which tokens are a word and a number in digits without a leading zero?
-use Rattle.std.specs.Prelude.{ℕ, ◌-◌, length, Bool, not, ◌&&◌, ◌==◌, nat_le, if◌then◌else◌, List, [], ◌∷◌, map, Option, Some, None, decimal}
+use Rattle.std.specs.Prelude.{ℕ, ◌-◌, length, not, ◌&&◌, ◌==◌, nat_le, if◌then◌else◌, List, [], ◌∷◌, map, Option, Some, None, decimal}
 use Rattle.std.specs.Int.RustNames.{unsigned_abs}
 use Rattle.std.specs.Option.{option_and_then}
 use Rattle.lhg_math.specs.Number.{lt, nought}

@@ -1,4 +1,4 @@
-use Rattle.std.proofs.Common.{sym, ◌∙◌, codes}
+use Rattle.std.proofs.Common.{sym, ◌∙◌}
 use Rattle.lhg_plant.specs.Views.{plain_plant}
 use Rattle.lhg_ctl.specs.Views.{plain_open}
 use Rattle.lhg_ctl.proofs.LineSteps.{no_tokens, by_rounds, by_first}

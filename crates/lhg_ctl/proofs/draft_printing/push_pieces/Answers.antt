@@ -1,18 +1,17 @@
-use Rattle.std.proofs.Common.{◌≡◌, ◌<◌, ◌++◌, ℕ, List, length, map, subst, sym, ap, ◌∙◌, arith}
+use Rattle.std.proofs.Common.{◌<◌, ◌++◌, ℕ, length, subst, sym, ap, ◌∙◌}
 use Rattle.std.specs.Global.{Vec}
 use Rattle.lhg_row.specs.Piece.{PlainPiece}
 use Rattle.lhg_row.specs.Row.{PlainRow}
 use Rattle.lhg_row.specs.Width.{AllWide}
 use Rattle.lhg_plant.specs.Views.{plain_plant}
-use Rattle.lhg_plant.specs.Word.{IsName}
 use Rattle.lhg_row_text.specs.PrintedLine.{line}
 use Rattle.lhg_row_text.specs.Short.{AllShort}
 use Rattle.lhg_row_text.proofs.Appended.{stepped}
 use Rattle.lhg_row_text.proofs.Members.{all_map_at}
-use Rattle.lhg_ctl.specs.ControllerText.{piece_line, named_guard_line}
+use Rattle.lhg_ctl.specs.ControllerText.{piece_line}
 use Rattle.lhg_ctl.specs.DraftStates.{IsPlaced}
 use Rattle.lhg_ctl.specs.Views.{plain_placed}
-use Rattle.lhg_ctl.proofs.DraftLines.{placed_more, guards_more, all_more, names_more}
+use Rattle.lhg_ctl.proofs.DraftLines.{placed_more, all_more}
 use Rattle.lhg_ctl.proofs.MakingSteps.{line_is}
 use Rattle.lhg_ctl.proofs.draft_printing.push_pieces.Goals as goal
 
