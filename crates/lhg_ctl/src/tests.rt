@@ -1,9 +1,9 @@
 // Texts of controllers and logs that are read, and texts that are refused at their first bad line.
-use crate::{controller_of, print_controller, read_controller, read_log};
+use crate::{Entry, controller_of, print_controller, print_draft, read_controller, read_log};
 use lhg_lex::{Lines, ReadStop, TEXT_LIMIT, What};
 use lhg_plant::Plant;
 use lhg_read::{finish, read_plant};
-use std::alloc::{AllocError, Global};
+use std::alloc::Global;
 use std::test::Fail;
 
 const THERMOSTAT: &[u8] =
@@ -115,5 +115,46 @@ fn texts_are_read_or_refused(rt: HostRuntime) -> Result<(), Fail> {
     for (text, line) in &LOGS {
         assert_eq!(rt; log_stop(rt.alloc(), &plant, text), *line, "of {text:?}");
     }
+    Ok(())
+}
+
+const FIRST: &[u8] = b"controller 1\npiece heat x >= 18, x <= 22\npiece cool x >= 18, x <= 22
+guard off x >= 18, x <= 22\nguard on x >= 18, x <= 22\nend\n";
+
+const SECOND: &[u8] =
+    b"controller 2\nrounds 0\npiece heat x >= 18, x <= 22\npiece cool x >= 18, x <= 22
+guard off g1 x >= 18, x <= 22\nguard on g2 x >= 18, x <= 22\nend\n";
+
+#[test]
+fn versions(rt: HostRuntime) -> Result<(), Fail> {
+    let plant = thermostat(rt.alloc())?;
+    for text in [FIRST, SECOND] {
+        let mut lines = Lines::new(text);
+        let draft = read_controller(rt.alloc(), &mut lines, &plant)?;
+        let printed = print_draft(rt.alloc(), &plant, &draft)?;
+        assert_eq!(rt; printed.as_slice(), SECOND);
+        let controller = controller_of(rt.alloc(), &plant, &draft)?;
+        let printed = print_controller(rt.alloc(), &plant, &controller)?;
+        assert_eq!(rt; printed.as_slice(), FIRST);
+    }
+    Ok(())
+}
+
+#[test]
+fn negative_time(rt: HostRuntime) -> Result<(), Fail> {
+    let plant = thermostat(rt.alloc())?;
+    let mut lines = Lines::new(b"start cool x = 20\nflow -1/2 x = 21\nend\n");
+    let (start, entries) = read_log(rt.alloc(), &mut lines, &plant)?;
+    assert_eq!(rt; start.loc, 1);
+    assert!(rt; matches!(entries.as_slice(), [Entry::Flow { .. }]));
+    let mut times = 0;
+    for entry in &entries {
+        if let Entry::Flow { time, to: _ } = entry {
+            assert_eq!(rt; time.numer(), -1);
+            assert_eq!(rt; time.denom(), 2);
+            times += 1;
+        }
+    }
+    assert_eq!(rt; times, 1);
     Ok(())
 }
