@@ -147,12 +147,12 @@ fn negative_time(rt: HostRuntime) -> Result<(), Fail> {
     let (start, entries) = read_log(rt.alloc(), &mut lines, &plant)?;
     assert_eq!(rt; start.loc, 1);
     assert!(rt; matches!(entries.as_slice(), [Entry::Flow { .. }]));
-    let mut times = 0;
+    let mut times = 0_u32;
     for entry in &entries {
         if let Entry::Flow { time, to: _ } = entry {
             assert_eq!(rt; time.numer(), -1);
             assert_eq!(rt; time.denom(), 2);
-            times += 1;
+            times = times.saturating_add(1);
         }
     }
     assert_eq!(rt; times, 1);
