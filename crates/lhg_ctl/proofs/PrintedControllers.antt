@@ -17,7 +17,9 @@ use Rattle.lhg_ctl.specs.ControllerGrammar.{IsControllerText}
 use Rattle.lhg_ctl.specs.ControllerLine.{ControllerLine, is_controllable, is_of, controller_line}
 use Rattle.lhg_ctl.specs.ControllerText.{piece_line, guard_line, controller_lines, controller_text}
 use Rattle.lhg_ctl.specs.Draft.{draft_of, all_at, placed_from}
+use Rattle.lhg_ctl.specs.DraftStates.{IsOfController}
 use Rattle.lhg_ctl.specs.Written.{IsWrittenController, AreOfController, IsShortList, IsShortController}
+use Rattle.lhg_ctl.specs.declared.versions.Version.TheVariants.{First}
 use Rattle.lhg_ctl.proofs.HeadLine.{head_line, head_tokens, head_is}
 use Rattle.lhg_ctl.proofs.LinesRead.{lines_read}
 use Rattle.lhg_ctl.proofs.PlacedRows.{placed_all, few_at}
@@ -54,16 +56,16 @@ there (s ∷ switches) zero h f = absurd cc
 there (s ∷ switches) (suc e) h f = there switches e (omega arith) f
 
 module _ (a : PlainPlant) (guards : List (List PlainPiece)) (ctl : AreOfController a guards) where
-  all_ctl : (k : ℕ) (lists : List (List PlainPiece)) → ((j : ℕ) → get_or lists j [] ≡ get_or guards (k + j) []) → k + length lists ≤ length a.switches → AllOf (λ g. is_of is_controllable (slice_get a.switches g.0) ≡ true) (placed_from k lists)
+  all_ctl : (k : ℕ) (lists : List (List PlainPiece)) → ((j : ℕ) → get_or lists j [] ≡ get_or guards (k + j) []) → k + length lists ≤ length a.switches → AllOf (IsOfController a) (placed_from k lists)
   all_ctl k [] same few = tt
   all_ctl k (ps ∷ lists) same few =
-      all-append (λ g. is_of is_controllable (slice_get a.switches g.0) ≡ true) (all_at k ps) (placed_from (suc k) lists)
+      all-append (IsOfController a) (all_at k ps) (placed_from (suc k) lists)
       (by_bool (is_of is_controllable (slice_get a.switches k)) (λ e. each ps e)
       (λ e. let none : ps ≡ [] = same 0 ∙ ap (λ j. get_or guards j []) (plus_zero k) ∙ ctl k (not_ctl (slice_get a.switches k) e (there a.switches k (omega arith))) in
-      subst (λ qs. AllOf (λ (g : ℕ × PlainPiece). is_of is_controllable (slice_get a.switches g.0) ≡ true) (all_at k qs)) (sym none) tt))
+      subst (λ qs. AllOf (IsOfController a) (all_at k qs)) (sym none) tt))
       (all_ctl (suc k) lists (λ j. same (suc j) ∙ ap (λ i. get_or guards i []) (plus_suc k j)) (omega arith))
     where
-      each : (qs : List PlainPiece) → is_of is_controllable (slice_get a.switches k) ≡ true → AllOf (λ (g : ℕ × PlainPiece). is_of is_controllable (slice_get a.switches g.0) ≡ true) (all_at k qs)
+      each : (qs : List PlainPiece) → is_of is_controllable (slice_get a.switches k) ≡ true → AllOf (IsOfController a) (all_at k qs)
       each [] e = tt
       each (q ∷ qs) e = (e, each qs e)
 
@@ -83,7 +85,7 @@ controller_reads a c proper h ctl short =
     let locs = h.locs in
     let switches = h.switches in
     let rest = map (piece_line a) d.pieces ++ (map (guard_line a) d.guards ++ codes "end" ∷ []) in
-    let t = lines_read ControllerLine (controller_line a) rest _
+    let t = lines_read ControllerLine (controller_line First a) rest _
     (draft_are a proper d (placed_all (length a.vars) (length a.locs) 0 c.region (omega (arith, locs)) h.region) (few_rows 0 c.region short.region)
     (placed_all (length a.vars) (length a.switches) 0 c.guards (omega (arith, switches)) h.guards) (all_ctl a c.guards ctl 0 c.guards (λ j. ap (λ (i : ℕ). get_or c.guards i []) (sym (zero-add j))) (omega (arith, switches))) (few_rows 0 c.guards short.guards)) in
     let inner : AllOf IsInner (controller_lines a c) = (record { inner = refl }, t.inner) in
@@ -94,6 +96,7 @@ controller_reads a c proper h ctl short =
       tokens = head_line ∷ t.tokens;
       are = rw (head, more) refl;
       is = record {
+        version = First;
         head = head_line;
         rest = t.tokens;
         lines_are = refl;
@@ -101,5 +104,6 @@ controller_reads a c proper h ctl short =
         rest_are = t.say;
         few_pieces = few_at piece_limit 0 c.region (few_pieces c.region short.region);
         few_guards = few_at piece_limit 0 c.guards (few_pieces c.guards short.guards);
+        names = (refl, refl);
       };
     })

@@ -1,8 +1,29 @@
-//! Controllers: their values and their text.
+//! Controllers and logs: their values and their texts.
 #![tactic(auto)]
 
+mod controller_lines;
 mod controllers;
+mod draft_printing;
+mod entries;
+pub mod laws;
+mod log_lines;
+mod logs;
+mod making;
+mod numbered;
+mod open_drafts;
+mod open_logs;
+mod places;
 mod printing;
+mod reading;
+#[cfg(test)]
+mod tests;
+mod versions;
 
-pub use controllers::Controller;
+pub use controller_lines::MOST_ROUNDS;
+pub use controllers::{Controller, Draft};
+pub use draft_printing::print_draft;
+pub use entries::Entry;
+pub use logs::read_log;
+pub use making::controller_of;
 pub use printing::{print_controller, push_controller};
+pub use reading::read_controller;

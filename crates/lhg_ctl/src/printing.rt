@@ -28,8 +28,8 @@ use lhg_row::Row;
 use lhg_row_text::push_rows;
 use std::alloc::{AllocError, Global};
 
-// A line of rows behind a word and a name.
-fn push_line(
+/// A line of rows behind a word and a name.
+pub(crate) fn push_line(
     text: &mut Vec<u8>,
     word: &[u8],
     name: &[u8],

@@ -1,0 +1,40 @@
+-- A text has one log at most.
+use Rattle.std.proofs.Common.{◌≡◌, List, [], ◌∷◌, map, refl, sym, ap, ◌∙◌, subst, Some}
+use Rattle.std.proofs.lemmas.Option.{same_Some}
+use Rattle.lhg_lex.specs.LineTokens.{Spot}
+use Rattle.lhg_lex.proofs.FirstBadProofs.{none_bad, one_bad}
+use Rattle.lhg_plant.specs.Plant.{PlainPlant}
+use Rattle.lhg_plant.specs.Run.{PlainEntry}
+use Rattle.lhg_read.specs.PlantText.{said_in}
+use Rattle.lhg_read.proofs.TextLawProofs.{same_tokens}
+use Rattle.lhg_ctl.specs.LogLaws.{LogLaws}
+use Rattle.lhg_ctl.specs.LogText.{PlainLog, log_line, start_line, said_entries, IsLog, IsSomeLogText}
+
+same_lines : (a b : List Spot) (xs ys : List (List Spot)) → a ∷ xs ≡ b ∷ ys → (a ≡ b) × (xs ≡ ys)
+same_lines a b xs ys e = (cc, cc)
+
+-- what is said is said by one list of entries
+same_said : (xs ys : List PlainEntry) → map (λ v. Some v) (said_entries xs) ≡ map (λ v. Some v) (said_entries ys) → xs ≡ ys
+same_said [] [] e = refl
+same_said [] (y ∷ ys) e = absurd cc
+same_said (x ∷ xs) [] e = absurd cc
+same_said (x ∷ xs) (y ∷ ys) e =
+    let here : x ≡ y = cc in
+    let later : map (λ v. Some v) (said_entries xs) ≡ map (λ v. Some v) (said_entries ys) = cc in
+    ap (λ z. z ∷ xs) here ∙ ap (λ zs. y ∷ zs) (same_said xs ys later)
+
+-- tokens are one log at most
+one_log : (p : PlainPlant) (lines : List (List Spot)) (x y : PlainLog) → IsLog p lines x → IsLog p lines y → x ≡ y
+one_log p lines x y h k =
+    let both = same_lines h.first k.first h.rest k.rest (sym h.lines_are ∙ k.lines_are) in
+    let start : x.start ≡ y.start = same_Some x.start y.start (sym h.start_is ∙ ap (λ l. start_line p (said_in l)) both.0 ∙ k.start_is) in
+    let entries = same_said x.entries y.entries (sym h.rest_are ∙ ap (map (λ l. log_line p (said_in l))) both.1 ∙ k.rest_are) in
+    ap (λ s. record { start = s; entries = x.entries }) start ∙ ap (λ es. record { start = y.start; entries = es }) entries
+
+pub log_laws : LogLaws
+log_laws = record {
+  one_value = λ p lines x y t u.
+      one_log p u.tokens x y (subst (λ ts. IsLog p ts x) (same_tokens (λ ts. IsLog p ts x) (λ ts. IsLog p ts y) lines t u) t.is) u.is;
+  no_bad_line = λ p. none_bad (IsSomeLogText p);
+  one_bad_line = λ p. one_bad (IsSomeLogText p);
+}
