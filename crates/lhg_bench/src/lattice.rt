@@ -1,5 +1,5 @@
 // Cells of side 1 in rows along each variable, through which a plant flows to a wall behind the last ones.
-ghost use Rattle.std.specs.Prelude.{◌≡◌, ◌<◌, IfOk};
+ghost use Rattle.std.specs.Prelude.{◌≡◌, ◌<◌, IfOk, OnOk};
 ghost use Rattle.lhg_row.specs.Width.{AllWide};
 ghost use Rattle.lhg_reach.specs.FoundParts.{AllFoundVars};
 ghost use Rattle.lhg_union.specs.PolyLists.{AllVars};
@@ -46,16 +46,18 @@ fn push_cell(
 ) -> Result<(), Halt>
     requires cells { 0 < cells }
     requires vars { AllVars vars out.old.items }
-    ensures { IfOk result (λ _. AllVars vars out.new.items) }
+    ensures { OnOk result (AllVars vars out.new.items) }
 {
     let rows = cell_rows(alloc, vars, cells, number)?;
-    push_some(out, make(alloc, vars, rows)?)
+    let piece = make(alloc, vars, rows)?;
+    push_some(out, piece)
 }
 
 impl Lattice {
     /// The number of variables.
     pub fn width(&self) -> usize
-        ensures { result ≡ self.now.vars }
+        ensures vars { result ≡ self.now.vars }
+        ensures few { result < 256 }
     {
         usize::from(self.vars)
     }
@@ -96,8 +98,9 @@ impl Lattice {
         ensures { IfOk result (λ v. AllVars self.now.vars v.items) }
     {
         let rows = self.wall_rows(alloc)?;
+        let piece = make(alloc, self.width(), rows)?;
         let mut out = Vec::new(alloc);
-        push_some(&mut out, make(alloc, self.width(), rows)?)?;
+        push_some(&mut out, piece)?;
         Ok(out)
     }
 

@@ -1,5 +1,5 @@
 // The systems of crossings: rows over two points and a time.
-ghost use Rattle.std.specs.Prelude.{◌≡◌, ◌+◌, ◌<◌, ◌≤◌, IfOk, OnOk};
+ghost use Rattle.std.specs.Prelude.{◌≡◌, ◌+◌, ◌<◌, ◌≤◌, IfOk, OnOk, length};
 ghost use Rattle.lhg_row.specs.Width.{AllWide};
 
 use crate::bounds::side;
