@@ -104,7 +104,7 @@ impl Lattice {
         Ok(out)
     }
 
-    /// The flow rows: the first variable grows at speed 1, and each other one changes by at most as much.
+    /// The flow rows: the first variable grows at a speed from 1 to 2, and each other one changes at a speed of at most 1 either way.
     pub fn speeds(&self, alloc: Global) -> Result<Vec<Row<Frac>>, Halt>
         ensures { IfOk result (λ v. AllWide self.now.vars v.items) }
     {
@@ -113,7 +113,8 @@ impl Lattice {
         for k in 0..vars {
             let low = if k == 0 { -1 } else { 1 };
             out.push(side(alloc, vars, k, -1, Kind::Weak, low)?)?;
-            out.push(side(alloc, vars, k, 1, Kind::Weak, 1)?)?;
+            let high = if k == 0 { 2 } else { 1 };
+            out.push(side(alloc, vars, k, 1, Kind::Weak, high)?)?;
         }
         Ok(out)
     }
