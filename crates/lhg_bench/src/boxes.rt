@@ -1,32 +1,14 @@
 // Boxes over some variables, and what others leave of one.
-ghost use Rattle.std.specs.Prelude.{◌≡◌, IfOk, length};
+ghost use Rattle.std.specs.Prelude.{IfOk};
 ghost use Rattle.lhg_row.specs.Width.{AllWide};
 ghost use Rattle.lhg_union.specs.PolyLists.{AllVars};
 
+use crate::bounds::side;
 use lhg_num::{Frac, Halt};
 use lhg_poly::{Poly, make};
-use lhg_row::{Kind, Row, whole_row};
+use lhg_row::{Kind, Row};
 use lhg_union::minus;
 use std::alloc::Global;
-
-// The factor for variable k, and 0 for each other.
-fn coefs(alloc: Global, vars: usize, k: usize, factor: i64) -> Result<Vec<i64>, Halt>
-    ensures { IfOk result (λ v. length v.items ≡ vars) }
-{
-    let mut out = Vec::with_capacity(alloc, vars)?;
-    for i in 0..vars {
-        out.push(if i == k { factor } else { 0 })?;
-    }
-    Ok(out)
-}
-
-// The factor times variable k is at most the bound.
-fn side(alloc: Global, vars: usize, k: usize, factor: i64, bound: i64) -> Result<Row<Frac>, Halt>
-    ensures { IfOk result (λ r. length r.coefs ≡ vars) }
-{
-    let coefs = coefs(alloc, vars, k, factor)?;
-    whole_row(alloc, &coefs, Kind::Weak, bound)
-}
 
 // Each variable is from low to high.
 fn sides(alloc: Global, vars: usize, low: u16, high: u16) -> Result<Vec<Row<Frac>>, Halt>
@@ -34,8 +16,8 @@ fn sides(alloc: Global, vars: usize, low: u16, high: u16) -> Result<Vec<Row<Frac
 {
     let mut out = Vec::new(alloc);
     for k in 0..vars {
-        out.push(side(alloc, vars, k, -1, -i64::from(low))?)?;
-        out.push(side(alloc, vars, k, 1, i64::from(high))?)?;
+        out.push(side(alloc, vars, k, -1, Kind::Weak, -i64::from(low))?)?;
+        out.push(side(alloc, vars, k, 1, Kind::Weak, i64::from(high))?)?;
     }
     Ok(out)
 }

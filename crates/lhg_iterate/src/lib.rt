@@ -13,6 +13,8 @@ mod solving;
 mod stages;
 mod stops;
 mod telling;
+#[cfg(test)]
+mod tests;
 
 pub use computing::round;
 pub use laws::law_largest;

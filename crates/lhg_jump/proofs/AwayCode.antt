@@ -1,9 +1,9 @@
 -- Steps of the loops over the locations of a region.
-use Rattle.std.proofs.Common.{◌≡◌, ◌<◌, ℕ, List, [], ◌∷◌, ◌++◌, length, map, get_or, refl, sym, ap, ◌∙◌, subst}
+use Rattle.std.proofs.Common.{◌≡◌, ◌<◌, ℕ, List, length, get_or, sym, ap, ◌∙◌, subst}
 use Rattle.std.specs.Global.{Vec}
 use Rattle.std.specs.List.{range_with_len}
 use Rattle.std.proofs.lemmas.List.{length-map}
-use Rattle.lhg_num.specs.Marked.{Marked, each}
+use Rattle.lhg_num.specs.Marked.{each}
 use Rattle.lhg_row.specs.System.{PlainSystem}
 use Rattle.lhg_union.specs.PolyLists.{lines_of, AllVars}
 use Rattle.lhg_union.proofs.ListFacts.{all_at}

@@ -1,17 +1,14 @@
 -- What is left of the calls of switch sets after their first steps, and which marks are theirs.
-use Rattle.std.proofs.Common.{◌≡◌, ℕ, List, [], length, sym, ap, subst}
+use Rattle.std.proofs.Common.{◌≡◌, ℕ, [], length, sym, ap, subst}
 use Rattle.std.specs.List.{range_with_len}
-use Rattle.lhg_num.specs.FracArithmetic.{frac_arithmetic}
-use Rattle.lhg_num.specs.Marked.{Marked, and_then, valued, each, IsRest}
+use Rattle.lhg_num.specs.Marked.{Marked, and_then, each, IsRest}
 use Rattle.lhg_num.specs.MarkedLaws.{IsPart, and_then-part, and_then-rest, rest_part, rest_rest}
-use Rattle.lhg_row.specs.Piece.{PlainPiece}
-use Rattle.lhg_row.specs.Lists.{minus}
 use Rattle.lhg_plant.specs.declared.plants.Side.TheVariants.{Ctl, Env, Pick}
 use Rattle.lhg_plant.specs.Plant.{PlainSwitch, PlainPlant}
 use Rattle.lhg_plant.specs.Region.{PlainRegion}
 use Rattle.lhg_plant.specs.Invariants.{pieces_at, invariants}
-use Rattle.lhg_plant.specs.Pre.{pre_list, pre_by}
-use Rattle.lhg_plant.specs.OutCalculus.{away, hits_at, outs_of, PlainOuts, out}
+use Rattle.lhg_plant.specs.Pre.{pre_by}
+use Rattle.lhg_plant.specs.OutCalculus.{away, hits_at, outs_of, out}
 use Rattle.lhg_plant.specs.BackCalculus.{kept_by, kept_side, back_by, back, guard_by, guards}
 
 -- ---- three steps

@@ -1,9 +1,8 @@
 -- Steps of the functions that gather hits.
-use Rattle.std.proofs.Common.{◌≡◌, ℕ, Bool, true, false, not, cond, List, [], length, nat_eq, refl, sym, ap, ◌∙◌}
+use Rattle.std.proofs.Common.{◌≡◌, ℕ, Bool, true, false, not, cond, List, [], length, refl, sym, ap, ◌∙◌}
 use Rattle.std.proofs.lemmas.Bool.{or_right, eq-eqb}
 use Rattle.lhg_num.specs.Marked.{Marked, done, walk}
 use Rattle.lhg_num.specs.MarkedLaws.{IsPart, part_part, and_then-part}
-use Rattle.lhg_row.specs.Piece.{PlainPiece}
 use Rattle.lhg_row.specs.Lists.{is_past_list}
 use Rattle.lhg_plant.specs.declared.plants.Side.TheVariants.{Env}
 use Rattle.lhg_plant.specs.Plant.{PlainSwitch, PlainPlant}

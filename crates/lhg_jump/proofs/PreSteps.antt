@@ -11,7 +11,7 @@ use Rattle.lhg_row.specs.Lists.{listed, counted_pieces}
 use Rattle.lhg_row.specs.Members.{all-append}
 use Rattle.lhg_row.proofs.Steps.{drop_cons}
 use Rattle.lhg_union.specs.PolyLists.{lines_of, AllVars}
-use Rattle.lhg_union.proofs.ListFacts.{lines_of-append, listed-append, all_at}
+use Rattle.lhg_union.proofs.ListFacts.{lines_of-append, listed-append}
 use Rattle.lhg_union.proofs.GatherSteps.{more-part, more-step, counted-part, joined-part}
 use Rattle.lhg_row.specs.Trim.{trim}
 use Rattle.lhg_row.specs.Pieces.{project}

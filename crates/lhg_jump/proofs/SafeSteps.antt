@@ -2,7 +2,7 @@
 use Rattle.std.proofs.Common.{◌≡◌, true, false, ℕ, ◌+◌, ◌<◌, ◌≤◌, List, [], ◌∷◌, ◌++◌, length, map, get_or, refl, sym, ap, ◌∙◌, subst}
 use Rattle.std.specs.Global.{Vec}
 use Rattle.lhg_num.specs.FracArithmetic.{frac_arithmetic}
-use Rattle.lhg_num.specs.Marked.{Marked, and_then, valued, IsRest}
+use Rattle.lhg_num.specs.Marked.{Marked, valued, IsRest}
 use Rattle.lhg_num.specs.MarkedLaws.{IsPart, and_then-part, and_then-rest}
 use Rattle.lhg_row.specs.Row.{PlainRow}
 use Rattle.lhg_row.specs.Piece.{PlainPiece}

@@ -1,5 +1,5 @@
 -- Steps of loops that walk over a list from a state to the next.
-use Rattle.std.proofs.Common.{◌≡◌, ℕ, suc, ◌+◌, ◌<◌, ◌≤◌, List, [], ◌∷◌, length, map, drop, get_or, refl, sym, ap, ◌∙◌, subst, arith}
+use Rattle.std.proofs.Common.{◌≡◌, ℕ, suc, ◌+◌, ◌<◌, ◌≤◌, List, ◌∷◌, length, map, drop, get_or, sym, ap, ◌∙◌, subst, arith}
 use Rattle.std.proofs.lemmas.List.{drop_all}
 use Rattle.lhg_num.specs.Marked.{Marked, walk, IsRest}
 use Rattle.lhg_num.specs.MarkedLaws.{IsPart, walk-step, walk-part}

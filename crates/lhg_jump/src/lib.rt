@@ -9,6 +9,8 @@ mod outs;
 mod predecessors;
 mod safe;
 mod telling;
+#[cfg(test)]
+mod tests;
 
 pub use backs::{back, guards};
 pub use hits::Hit;

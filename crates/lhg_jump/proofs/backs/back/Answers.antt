@@ -1,4 +1,4 @@
-use Rattle.std.proofs.Common.{◌≡◌, ℕ, ◌<◌, ◌≤◌, ◌∷◌, [], length, map, refl, sym, ap, ◌∙◌, subst, rules}
+use Rattle.std.proofs.Common.{◌≤◌, length, refl, sym, ap, ◌∙◌, subst, rules}
 use Rattle.std.specs.Global.{Vec}
 use Rattle.lhg_math.specs.Tests.{AllOf}
 use Rattle.lhg_num.specs.FracArithmetic.{frac_arithmetic}
@@ -6,18 +6,13 @@ use Rattle.lhg_num.specs.Marked.{each}
 use Rattle.lhg_num.specs.MarkedLaws.{IsPart, rest_part}
 use Rattle.lhg_num.proofs.Halted.{part_halts}
 use Rattle.lhg_row.specs.System.{PlainSystem}
-use Rattle.lhg_row.specs.Members.{all-append}
-use Rattle.lhg_plant.specs.Region.{PlainGuards}
 use Rattle.lhg_plant.specs.Invariants.{invariants}
-use Rattle.lhg_plant.specs.OutCalculus.{away}
-use Rattle.lhg_plant.specs.BackCalculus.{back_by, back, guard_by, guards}
-use Rattle.lhg_plant.specs.Laws.{HasExactGuards}
+use Rattle.lhg_plant.specs.BackCalculus.{back_by, back}
 use Rattle.lhg_plant.specs.SwitchFacts.{AreBacks}
 use Rattle.lhg_plant.specs.Inside.{IsRegionInside}
 use Rattle.lhg_plant.specs.Views.{plain_switch, plain_plant}
 use Rattle.lhg_plant.proofs.BackStates.{back-states}
-use Rattle.lhg_plant.proofs.KeepStates.{guards-states}
-use Rattle.lhg_union.specs.PolyLists.{lines_of, AllVars, ArePolys}
+use Rattle.lhg_union.specs.PolyLists.{lines_of, ArePolys}
 use Rattle.lhg_union.specs.Regions.{plain_region}
 use Rattle.lhg_union.proofs.Halts.{all_on_rows}
 use Rattle.lhg_jump.proofs.Answering.{region_over, switch-proper}

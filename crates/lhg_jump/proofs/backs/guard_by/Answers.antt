@@ -1,10 +1,8 @@
-use Rattle.std.proofs.Common.{◌≡◌, ◌<◌, length, sym, ap, ◌∙◌, subst, rules, arith}
-use Rattle.std.specs.Global.{Vec}
+use Rattle.std.proofs.Common.{◌<◌, length, sym, ap, ◌∙◌, subst, arith}
 use Rattle.lhg_num.specs.FracArithmetic.{frac_arithmetic}
 use Rattle.lhg_num.specs.Halting.{IsHaltedBy}
 use Rattle.lhg_num.specs.MarkedLaws.{and_then-part, and_then-rest}
 use Rattle.lhg_num.proofs.Halted.{part_halts}
-use Rattle.lhg_row.specs.System.{PlainSystem}
 use Rattle.lhg_row.specs.Lists.{meet_lists}
 use Rattle.lhg_plant.specs.Invariants.{pieces_at}
 use Rattle.lhg_plant.specs.BackCalculus.{back_by, guard_by}

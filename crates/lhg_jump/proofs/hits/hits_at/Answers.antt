@@ -1,7 +1,7 @@
-use Rattle.std.proofs.Common.{◌≡◌, ◌<◌, ◌≤◌, true, not, length, sym, ap, ◌∙◌, rules}
+use Rattle.std.proofs.Common.{◌≡◌, ◌<◌, ◌≤◌, length, sym, ap, ◌∙◌, rules}
 use Rattle.lhg_num.proofs.Halted.{part_halts}
 use Rattle.lhg_row.specs.Lists.{is_past_list}
-use Rattle.lhg_plant.specs.OutCalculus.{hit_by, hit_pieces, hits_at}
+use Rattle.lhg_plant.specs.OutCalculus.{hit_by, hit_pieces}
 use Rattle.lhg_plant.specs.Views.{plain_switch, plain_plant}
 use Rattle.lhg_union.specs.PolyLists.{lines_of}
 use Rattle.lhg_union.specs.Regions.{plain_region}

@@ -1,4 +1,4 @@
-use Rattle.std.proofs.Common.{◌≡◌, ◌<◌, List, ◌∷◌, [], length, map, sym, ap, ◌∙◌, subst, rules, arith}
+use Rattle.std.proofs.Common.{◌<◌, List, ◌∷◌, [], length, map, sym, ap, ◌∙◌, subst, rules, arith}
 use Rattle.std.specs.Global.{Vec}
 use Rattle.std.proofs.lemmas.List.{length-map, map_push}
 use Rattle.lhg_math.specs.Tests.{AllOf}

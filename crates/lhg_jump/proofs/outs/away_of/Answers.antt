@@ -1,15 +1,11 @@
-use Rattle.std.proofs.Common.{◌≡◌, ◌<◌, ◌≤◌, ◌∷◌, [], length, sym, ap, ◌∙◌, subst, rules, arith}
-use Rattle.std.specs.Global.{Vec}
-use Rattle.lhg_math.specs.Tests.{AllOf}
+use Rattle.std.proofs.Common.{◌≡◌, ◌<◌, ◌≤◌, length, sym, ap, ◌∙◌, subst, rules, arith}
 use Rattle.lhg_num.specs.FracArithmetic.{frac_arithmetic}
 use Rattle.lhg_num.specs.MarkedLaws.{IsPart}
 use Rattle.lhg_num.proofs.Halted.{part_halts}
-use Rattle.lhg_row.specs.System.{PlainSystem}
 use Rattle.lhg_row.specs.Lists.{minus}
-use Rattle.lhg_row.specs.Members.{all-append}
 use Rattle.lhg_plant.specs.Invariants.{pieces_at}
 use Rattle.lhg_plant.specs.OutCalculus.{away_at, away}
-use Rattle.lhg_union.specs.PolyLists.{lines_of, AllVars}
+use Rattle.lhg_union.specs.PolyLists.{lines_of}
 use Rattle.lhg_union.specs.Regions.{plain_region}
 use Rattle.lhg_jump.proofs.AwayCode.{away-whole, vars-at}
 use Rattle.lhg_jump.proofs.RegionSteps.{region-push, over-push}

@@ -1,4 +1,4 @@
-use Rattle.std.proofs.Common.{◌≡◌, ℕ, List, length, map, refl, sym, ap, ◌∙◌, subst, rules}
+use Rattle.std.proofs.Common.{List, length, map, refl, sym, ap, ◌∙◌, subst}
 use Rattle.std.specs.Global.{Vec}
 use Rattle.std.specs.List.{range_with_len}
 use Rattle.lhg_math.specs.Tests.{AllOf}
@@ -13,7 +13,7 @@ use Rattle.lhg_plant.specs.Region.{InRegion}
 use Rattle.lhg_plant.specs.SwitchFacts.{IsOutOf}
 use Rattle.lhg_plant.specs.Views.{plain_plant}
 use Rattle.lhg_plant.proofs.OutStates.{out-states}
-use Rattle.lhg_union.specs.PolyLists.{AllVars, ArePolys}
+use Rattle.lhg_union.specs.PolyLists.{ArePolys}
 use Rattle.lhg_union.specs.Regions.{plain_region}
 use Rattle.lhg_union.proofs.Halts.{all_on_rows}
 use Rattle.lhg_jump.specs.declared.hits.Hit.{Hit}

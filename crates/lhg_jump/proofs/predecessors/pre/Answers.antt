@@ -1,5 +1,4 @@
-use Rattle.std.proofs.Common.{◌≡◌, ◌+◌, ◌<◌, length, sym, ap, ◌∙◌, subst, rules}
-use Rattle.lhg_num.specs.FracArithmetic.{frac_arithmetic}
+use Rattle.std.proofs.Common.{◌≡◌, ◌+◌, length, sym, ap, ◌∙◌, subst, rules}
 use Rattle.lhg_num.specs.MarkedLaws.{IsPart}
 use Rattle.lhg_num.specs.Halting.{IsHaltedBy}
 use Rattle.lhg_row.specs.Width.{AllWide}

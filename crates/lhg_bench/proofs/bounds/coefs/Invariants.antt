@@ -1,5 +1,5 @@
 use Rattle.std.proofs.Common.{◌≡◌, length}
-use Rattle.lhg_bench.proofs.boxes.coefs.Given as goal
+use Rattle.lhg_bench.proofs.bounds.coefs.Given as goal
 
 abbrev pub invariant-loop-i : goal.invariant-loop-i
 invariant-loop-i l = length l.out.items ≡ l.i

@@ -1,0 +1,5 @@
+use Rattle.lhg_row.specs.Width.{AllWide}
+use Rattle.lhg_bench.proofs.lattice.cell_rows.Given as goal
+
+abbrev pub invariant-loop-k : goal.invariant-loop-k
+invariant-loop-k l = AllWide l.vars l.out.items
