@@ -4,5 +4,7 @@ pub mod NearSteps
 pub mod PlaceSteps
 pub mod RecordSteps
 pub mod RoundSteps
+pub mod SeekSteps
 pub mod Settling
 pub mod StageSteps
+pub mod StopSteps

@@ -1,6 +1,7 @@
-//! Plants and reports as texts.
+//! Plants, reports and explanations as texts.
 #![tactic(auto)]
 
+mod escapes;
 pub mod laws;
 mod losses;
 mod plants;
@@ -11,5 +12,6 @@ mod reports;
 mod tests;
 mod words;
 
+pub use escapes::print_escape;
 pub use plants::print_plant;
 pub use reports::print_report;

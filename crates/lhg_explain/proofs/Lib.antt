@@ -1,0 +1,6 @@
+pub mod Escapes
+pub mod FlowPoints
+pub mod FlowRows
+pub mod HeldRecords
+pub mod RecordSteps
+pub mod Samples
