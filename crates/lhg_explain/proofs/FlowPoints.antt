@@ -14,7 +14,7 @@ use Rattle.lhg_motion.specs.CrossSystem.{cross_rows-wide, middle_rows}
 use Rattle.lhg_motion.specs.CrossLaws.{to_middle}
 use Rattle.lhg_explain.specs.Explanation.{sample_of, crossing_from, flow_from}
 use Rattle.lhg_explain.proofs.FlowRows.{IsCrossingTo, rows_crossing}
-use Rattle.lhg_explain.proofs.Samples.{sample_of-in, last_split}
+use Rattle.lhg_explain.proofs.SamplePoints.{sample_of-in, last_split}
 
 module _ (n : ℕ) (start through into flow : PlainPiece) (ws : AllWide n start) (wt : AllWide n through) (wi : AllWide n into) (wf : AllWide n flow) (x : PlainPoint) (lx : length x ≡ n) where
   abbrev rows : PlainPiece

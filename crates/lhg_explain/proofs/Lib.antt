@@ -3,4 +3,4 @@ pub mod FlowPoints
 pub mod FlowRows
 pub mod HeldRecords
 pub mod RecordSteps
-pub mod Samples
+pub mod SamplePoints

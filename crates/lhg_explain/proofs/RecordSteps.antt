@@ -30,7 +30,7 @@ use Rattle.lhg_explain.specs.Explanation.{flow_rows, flow_by, result_from}
 use Rattle.lhg_explain.proofs.FlowRows.{IsCrossingTo}
 use Rattle.lhg_explain.proofs.FlowPoints.{flow_from-crosses}
 use Rattle.lhg_explain.specs.Results.{IsResultIn}
-use Rattle.lhg_explain.proofs.Samples.{result_from-in}
+use Rattle.lhg_explain.proofs.SamplePoints.{result_from-in}
 
 -- ---- widths
 -- the flow rows of a location that may not be there

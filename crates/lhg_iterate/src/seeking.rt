@@ -1,14 +1,12 @@
 // Whether one state is kept, and if not, in which round it is lost and why.
-ghost use Rattle.std.specs.Prelude.{◌≡◌, ◌<◌, ◌≤◌, length, vec_len, IsTrue, ◌↔◌, IfOk, IfErr};
+ghost use Rattle.std.specs.Prelude.{◌≡◌, ◌↔◌, ◌+◌, ◌<◌, ◌≤◌, length, vec_len, IsTrue, IfOk, IfErr};
 ghost use Rattle.lhg_num.specs.FracArithmetic.{frac_arithmetic};
 ghost use Rattle.lhg_num.specs.Halting.{IsWideBy};
 ghost use Rattle.lhg_plant.specs.State.{IsSafe, IsState};
-ghost use Rattle.lhg_plant.specs.Round.{InRound};
 ghost use Rattle.lhg_plant.specs.Views.{plain_plant, plain_state};
 ghost use Rattle.lhg_iterate.specs.SeekWork.{safe_truth};
 ghost use Rattle.lhg_iterate.specs.Seeking.{IsSought, SoughtVars, IsSeekStopped};
-ghost use Rattle.lhg_iterate.specs.Stages.{IsAfter};
-ghost use Rattle.lhg_iterate.specs.Turns.{IsTurn};
+ghost use Rattle.lhg_iterate.specs.Turns.{IsStillIn, IsTurn};
 
 use crate::safe_lines::some_holds;
 use crate::solving::spent;
@@ -135,9 +133,8 @@ fn next_turn(
 ) -> Result<Turn, SeekStop>
     requires within { rounds < budget }
     requires lengths { length state.now.at ≡ vec_len plant.now.vars }
-    requires stage { IsAfter plant.now budget rounds stage }
-    requires kept { InRound (plain_plant plant.now) rounds (plain_state state.now) }
-    ensures ok { IfOk result (IsTurn plant.now budget rounds (plain_state state.now)) }
+    requires still { IsStillIn plant.now budget rounds (plain_state state.now) stage }
+    ensures ok { IfOk result (IsTurn plant.now budget (rounds + 1) (plain_state state.now)) }
     ensures stop { IfErr result (IsSeekStopped (plain_plant plant.now) budget (plain_state state.now)) }
 {
     law_seek();
