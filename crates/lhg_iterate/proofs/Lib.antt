@@ -9,3 +9,4 @@ pub mod SeekSteps
 pub mod Settling
 pub mod StageSteps
 pub mod StopSteps
+pub mod TurnSteps

@@ -47,7 +47,10 @@ undecided_first a z safe = record { safe = safe; kept = λ j l. absurd (omega ar
 -- the marks of a stage
 seek-stage : (a : PlainPlant) (budget : ℕ) (z : PlainState) (i : ℕ) → IsPart (seek_work a budget z i) (stage a i)
 unfolding seek_work
-seek-stage a budget z i = and_then-part (stage a i) _
+seek-stage a budget z i =
+    and_then-part (stage a i) (λ (s : PlainStage).
+    let last = kept_work a s.last (holding z s.last).value in
+    cond (nat_eq i budget) last (done tt))
 
 -- those of the sample of the last round, no record of which holds the state
 seek-sample : (a : PlainPlant) (budget : ℕ) (z : PlainState) (i : ℕ) → i ≡ budget → (holding z (stage a i).value.last).value ≡ None → IsPart (seek_work a budget z i) (spent_state a (stage a i).value.last)

@@ -1,13 +1,14 @@
 -- Which marks are those of a stage, and which stops of the stages are stops of the iteration?
 use Rattle.std.proofs.Common.{◌≡◌, ◌≤◌, ◌<◌, ◌-◌, ℕ, zero, suc, Bool, true, false, Result, Ok, Err, refl, sym, subst, arith}
-use Rattle.std.specs.Prelude.{IfErr}
+use Rattle.std.specs.Prelude.{IfErr, nat_eq, cond}
 use Rattle.std.specs.Result.{IsErrAnd}
-use Rattle.lhg_num.specs.Marked.{Marked, valued}
+use Rattle.lhg_num.specs.Marked.{Marked, done, valued}
 use Rattle.lhg_num.specs.MarkedLaws.{IsPart, and_then-part, and_then-rest, rest_part, part_self}
 use Rattle.lhg_num.specs.Halting.{IsHaltedBy, IsHaltedByRows}
 use Rattle.lhg_num.specs.declared.refusals.Halt.{Halt}
 use Rattle.lhg_num.specs.declared.refusals.Halt.TheVariants as halt
 use Rattle.lhg_plant.specs.Plant.{PlainPlant}
+use Rattle.lhg_plant.specs.BackCalculus.{guards}
 use Rattle.lhg_plant.specs.SafeRegion.{safe_region}
 use Rattle.lhg_loss.specs.Records.{PlainRound}
 use Rattle.lhg_loss.specs.Iterate.{PlainStage, stage, next_round, after_round, counted_stage, none_lost, nothing, spent_state, work}
@@ -43,7 +44,11 @@ stage-totals a i =
 work-stage : (a : PlainPlant) (budget i : ℕ) → IsPart (work a budget i) (stage a i)
 unfolding work
 work-stage a budget zero = record { wide = λ h. h; rows = λ h. h; pieces = λ h. h }
-work-stage a budget (suc i) = and_then-part (stage a (suc i)) _
+work-stage a budget (suc i) =
+    and_then-part (stage a (suc i)) (λ (s : PlainStage).
+    let kept = valued nothing (guards a s.region) in
+    let lost = cond (nat_eq (suc i) budget) (valued nothing (spent_state a s.last)) (done tt) in
+    cond (none_lost s.last) kept lost)
 
 -- ---- halts
 -- a halt of a part of a stage that is computed
