@@ -8,7 +8,7 @@ use Rattle.lhg_motion.specs.Play.{PlainMove, last_point}
 use Rattle.lhg_plant.specs.Plant.{PlainPlant}
 use Rattle.lhg_plant.specs.State.{PlainState}
 use Rattle.lhg_plant.specs.Loss.{PlainLoss}
-use Rattle.lhg_explain.specs.Explanation.{PlainNext, flows_on, flows_out, switches, PlainWay, onward, way_by, way_within, loss_at, next_by}
+use Rattle.lhg_explain.specs.Explanation.{PlainNext, flows_on, flows_out, switches, PlainWay, PlainEscape, onward, way_by, way_within, loss_at, next_by, explanation}
 use Rattle.lhg_explain.specs.Explained.{IsHeldBy, state_in}
 use Rattle.lhg_explain.proofs.HeldRecords.{IsOnward}
 
@@ -35,7 +35,7 @@ pub on_way-start : (a : PlainPlant) (losses : List PlainLoss) (number : ℕ) (x 
 on_way-start a losses number x h = record {
   within = omega arith;
   rest = λ left e. (let same : left ≡ number = omega arith in
-    subst (λ k. IsRest (way_within number a losses (loss_at losses number) x) (left_way a losses k x number [])) (sym same) (rest_self (way_within number a losses (loss_at losses number) x)));
+      subst (λ k. IsRest (way_within number a losses (loss_at losses number) x) (left_way a losses k x number [])) (sym same) (rest_self (way_within number a losses (loss_at losses number) x)));
   held = h;
 }
 
@@ -104,3 +104,19 @@ module _ (a : PlainPlant) (losses : List PlainLoss) (number : ℕ) (x : PlainPoi
             pieces = n.pieces;
           } in
           subst (λ (z : PlainPoint). IsRest whole (valued (behind (ms ++ move ∷ [])) (way_within left a losses (loss_at losses k) z))) (sym (last_more x ms move)) moved
+
+-- ---- the whole
+-- an escape by its parts
+abbrev pub escape_of : ℕ → PlainState → PlainWay → PlainEscape
+escape_of round start way = record { round = round; start = start; way = way }
+
+-- the marks of an explanation are those of its way
+pub explanation-part : (a : PlainPlant) (losses : List PlainLoss) (m : ℕ) (s : PlainState) → IsPart (explanation a losses m s) (way_within m a losses (loss_at losses m) s.at)
+unfolding explanation
+explanation-part a losses m s = record { wide = λ h. h; rows = λ h. h; pieces = λ h. h }
+
+-- its value
+pub explanation-value : (a : PlainPlant) (losses : List PlainLoss) (m : ℕ) (s : PlainState)
+    → (explanation a losses m s).value ≡ escape_of (loss_at losses m).round s (way_within m a losses (loss_at losses m) s.at).value
+unfolding explanation
+explanation-value a losses m s = refl

@@ -39,13 +39,14 @@ pub lines_wide : {A : Type 0} (n : ℕ) (f : A → PlainPiece) (xs : List A) →
 lines_wide n f [] h = tt
 lines_wide n f (x ∷ xs) h = (h.0.wide, lines_wide n f xs h.1)
 
--- the first stage has no record
+-- the stage of round 0 has no record
+none_first : (a : PlainPlant) (z : PlainState) → (holding z (stage a 0).value.last).value ≡ None
+unfolding stage
+none_first a z = refl
+
+-- so none holds a state
 pub first_unheld : (p : Plant) (budget : ℕ) (z : PlainState) (s : Stage) → IsAfter p budget 0 s → (holding z (plain_stage s).last).value ≡ None
-first_unheld p budget z s h = ap (λ (t : PlainStage). (holding z t.last).value) h.same ∙ none (plain_plant p)
-  where
-    none : (a : PlainPlant) → (holding z (stage a 0).value.last).value ≡ None
-    unfolding stage
-    none a = refl
+first_unheld p budget z s h = ap (λ (t : PlainStage). (holding z t.last).value) h.same ∙ none_first (plain_plant p) z
 
 module _ (p : Plant) (budget i : ℕ) (z : PlainState) (s : Stage) (r : Round) (still : IsStillIn p budget i z s) (k : IsRoundAfter p i s r) (less : i < budget) (seeks : SeekLaw (plain_plant p)) where
   abbrev a : PlainPlant
