@@ -1,6 +1,8 @@
 //! Plants, reports and explanations as texts.
 #![tactic(auto)]
 
+#[cfg(test)]
+mod escape_tests;
 mod escapes;
 pub mod laws;
 mod losses;
