@@ -4,7 +4,7 @@ use Rattle.std.specs.Prelude.{IfOk, OnOk}
 use Rattle.std.specs.Result.{IsErrAnd}
 use Rattle.lhg_num.specs.Marked.{Marked}
 use Rattle.lhg_num.specs.MarkedLaws.{IsPart}
-use Rattle.lhg_num.specs.Halting.{IsHaltedBy, IsHaltedByRows, IsHaltedByMemory}
+use Rattle.lhg_num.specs.Halting.{IsHaltedBy, IsHaltedByMemory}
 use Rattle.lhg_num.specs.declared.refusals.Halt.{Halt}
 use Rattle.lhg_num.specs.declared.refusals.Halt.TheVariants.{Wide, Rows, Pieces, Memory}
 use Rattle.lhg_plant.specs.Plant.{PlainPlant}
@@ -39,14 +39,6 @@ stop_in a budget i Wide part f within computed p h = record { within = within; c
 stop_in a budget i Rows part f within computed p h = record { within = within; computed = computed; marked = p.rows h }
 stop_in a budget i Pieces part f within computed p h = record { within = within; computed = computed; marked = p.pieces h }
 stop_in a budget i Memory part f within computed p h = tt
-
--- the same of a call that halts for numbers and rows
-pub stop_in_rows : {T A : Type 0} (a : PlainPlant) (budget i : ℕ) (e : Halt) (part : Marked A) (f : T → A) → i ≤ budget → IsComputed a i → IsPart (work a budget i) part
-    → IsHaltedByRows {T = T} (Err e) part f → IsStoppedBy a budget (stop_of e i)
-stop_in_rows a budget i Wide part f within computed p h = record { within = within; computed = computed; marked = p.wide h }
-stop_in_rows a budget i Rows part f within computed p h = record { within = within; computed = computed; marked = p.rows h }
-stop_in_rows a budget i Pieces part f within computed p h = absurd h
-stop_in_rows a budget i Memory part f within computed p h = tt
 
 -- ---- facts of an answer
 -- what holds anyway holds where there is a value

@@ -4,5 +4,9 @@ pub mod NearSteps
 pub mod PlaceSteps
 pub mod RecordSteps
 pub mod RoundSteps
+pub mod SafeLines
+pub mod SeekSteps
 pub mod Settling
 pub mod StageSteps
+pub mod StopSteps
+pub mod TurnSteps

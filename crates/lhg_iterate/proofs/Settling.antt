@@ -110,18 +110,15 @@ module _ (p : Plant) (budget : ℕ) (s : Stage) (h : IsAfter p budget budget s) 
         subst (IsSpent a budget) (sym there) (record { removed = h.removed some; removes = h.stage_is.removes }),
       )
 
-  -- the marks of the sample are those of the work of the last round
-  pub sample-part : ((j : ℕ) → WorkLaws (plain_plant p) budget j) → IsPart (work (plain_plant p) budget budget) sampled
-  sample-part laws =
-      let a = plain_plant p in
-      let j = budget - 1 in
-      let last : suc j ≡ budget = omega arith in
-      let lost : none_lost (stage a budget).value.last ≡ false = ap (λ t. none_lost t.last) (sym h.same) ∙ ap none_lost last-is in
-      let at_last = (laws j).lost last (subst (λ i. none_lost (stage a i).value.last ≡ false) (sym last) lost) in
-      let part : IsPart (work a budget budget) (spent_state a (stage a budget).value.last) = subst (λ i. IsPart (work a budget i) (spent_state a (stage a i).value.last)) last at_last in
-      let here : IsPart (work a budget budget) (valued as_state sampled) =
-      subst (IsPart (work a budget budget)) (ap (λ t. spent_state a t.last) (sym h.same) ∙ sym state-is) part in
-      record { wide = here.wide; rows = here.rows; pieces = here.pieces }
+  -- the last round has a record
+  pub sample-lost : none_lost (stage (plain_plant p) budget).value.last ≡ false
+  sample-lost = ap (λ t. none_lost t.last) (sym h.same) ∙ ap none_lost last-is
+
+  -- the marks of the sample
+  pub sample-part : IsPart (spent_state (plain_plant p) (stage (plain_plant p) budget).value.last) sampled
+  sample-part =
+      let here : valued as_state sampled ≡ spent_state (plain_plant p) (stage (plain_plant p) budget).value.last = state-is ∙ ap (λ t. spent_state (plain_plant p) t.last) h.same in
+      subst (λ m. IsPart m sampled) here (record { wide = λ x. x; rows = λ x. x; pieces = λ x. x })
 
   -- the last round is computed
   pub last-computed : IsComputed (plain_plant p) budget

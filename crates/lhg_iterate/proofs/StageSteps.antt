@@ -13,16 +13,18 @@ use Rattle.lhg_plant.specs.Views.{plain_plant}
 use Rattle.lhg_union.specs.Regions.{plain_region}
 use Rattle.lhg_loss.specs.declared.losses.Loss.{Loss}
 use Rattle.lhg_loss.specs.Records.{record_row_limit, loss_rows, one_round}
-use Rattle.lhg_loss.specs.Iterate.{PlainStage, first_stage, stage, next_round, after_round, none_lost, spent_state, solution_within, work, counted_stage}
+use Rattle.lhg_loss.specs.Iterate.{PlainStage, first_stage, stage, next_round, after_round, none_lost, spent_state, solution_within, counted_stage}
 use Rattle.lhg_loss.specs.RoundFacts.{IsExactRound}
 use Rattle.lhg_loss.specs.SolveLaws.{StageLaws}
 use Rattle.lhg_loss.specs.StageFacts.{IsStage}
 use Rattle.lhg_loss.specs.Views.{plain_loss, plain_losses, LossVars, AllHaveVars}
-use Rattle.lhg_loss.specs.WorkLaws.{IsStopIn, StepLaws, WorkLaws}
+use Rattle.lhg_loss.specs.WorkLaws.{StepLaws}
 use Rattle.lhg_iterate.specs.declared.rounds.Round.{Round}
 use Rattle.lhg_iterate.specs.declared.stages.Stage.{Stage}
 use Rattle.lhg_iterate.specs.RoundViews.{plain_round, IsOverPlant}
 use Rattle.lhg_iterate.specs.Stages.{plain_stage, IsAfter, IsRoundAfter}
+use Rattle.lhg_iterate.specs.Stops.{IsStageStopIn}
+use Rattle.lhg_iterate.proofs.StopSteps.{stage-round, stage-totals}
 
 -- ---- lists of records
 -- some record
@@ -89,10 +91,9 @@ module _ (p : Plant) (budget i : ℕ) (s : Stage) (number first : ℕ) (number_i
   round-same : one_round a region number first ≡ next_round a (suc i) (plain_stage s)
   round-same = ap (λ k. one_round a region k first) number_is ∙ ap (one_round a region (suc i)) counted
 
-  -- the marks of the round are those of its work
-  pub round-part : WorkLaws a budget i → IsAfter p budget i s → IsPart (work a budget (suc i)) (one_round a region number first)
-  round-part laws h =
-      subst (IsPart (work a budget (suc i))) (ap (next_round a (suc i)) (sym h.same) ∙ sym round-same) laws.round
+  -- the marks of the round are those of its stage
+  pub round-part : IsAfter p budget i s → IsPart (stage a (suc i)) (one_round a region number first)
+  round-part h = subst (IsPart (stage a (suc i))) (ap (next_round a (suc i)) (sym h.same) ∙ sym round-same) (stage-round a i)
 
   -- the round
   pub round-after : (r : Round) → plain_round r ≡ (one_round a region number first).value → IsExactRound a region number first (plain_round r)
@@ -117,19 +118,20 @@ module _ (p : Plant) (budget i : ℕ) (s : Stage) (r : Round) (h : IsAfter p bud
   stage-there steps =
       steps.next i ∙ ap (λ x. after_round (stage (plain_plant p) i).value x) round-there ∙ ap (λ t. after_round t (plain_round r)) (sym h.same)
 
-  -- the marks of the totals of its records are those of its work
-  pub totals-part : WorkLaws (plain_plant p) budget i → IsPart (work (plain_plant p) budget (suc i)) (counted_stage (after_round (plain_stage s) (plain_round r)))
-  totals-part laws =
-      subst (λ t. IsPart (work (plain_plant p) budget (suc i)) (counted_stage t))
-      (ap (λ x. after_round (stage (plain_plant p) i).value x) round-there ∙ ap (λ t. after_round t (plain_round r)) (sym h.same)) laws.totals
+  -- the marks of the totals of its records are those of its stage
+  pub totals-part : IsPart (stage (plain_plant p) (suc i)) (counted_stage (after_round (plain_stage s) (plain_round r)))
+  totals-part =
+      subst (λ t. IsPart (stage (plain_plant p) (suc i)) (counted_stage t))
+      (ap (λ x. after_round (stage (plain_plant p) i).value x) round-there ∙ ap (λ t. after_round t (plain_round r)) (sym h.same)) (stage-totals (plain_plant p) i)
 
   -- where the rows of all records are past their limit, so are the totals
-  pub totals-stop : WorkLaws (plain_plant p) budget i → i < budget → (all : List Loss) → all ≡ s.losses.items ++ r.losses.items → nat_lt record_row_limit (loss_rows (plain_losses all)) ≡ true
-      → IsStopIn (plain_plant p) budget (suc i) (λ m. m.pieces)
-  totals-stop laws less all all_are past = record {
+  pub totals-stop : i < budget → (all : List Loss) → all ≡ s.losses.items ++ r.losses.items → nat_lt record_row_limit (loss_rows (plain_losses all)) ≡ true
+      → (number : ℕ) → number ≡ suc i → IsStageStopIn (plain_plant p) budget (suc i) number (λ m. m.pieces)
+  totals-stop less all all_are past number number_is = record {
+    number_is = number_is;
     within = omega arith;
     computed = h.computed;
-    marked = (totals-part laws).pieces (ap (λ ls. nat_lt record_row_limit (loss_rows ls)) (sym (ap plain_losses all_are ∙ map-append plain_loss s.losses.items r.losses.items)) ∙ past);
+    marked = totals-part.pieces (ap (λ ls. nat_lt record_row_limit (loss_rows ls)) (sym (ap plain_losses all_are ∙ map-append plain_loss s.losses.items r.losses.items)) ∙ past);
   }
 
   module _ (t : Stage) (laws : StageLaws (plain_plant p)) (steps : StepLaws (plain_plant p)) (some : 0 < length r.losses.items)

@@ -1,4 +1,8 @@
 pub mod Naming
 pub mod Outcomes
 pub mod RoundViews
+pub mod SeekWork
+pub mod Seeking
 pub mod Stages
+pub mod Stops
+pub mod Turns

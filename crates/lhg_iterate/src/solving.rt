@@ -7,6 +7,7 @@ ghost use Rattle.lhg_loss.specs.Iterate as calculus;
 ghost use Rattle.lhg_loss.specs.Views.{AllHaveVars};
 ghost use Rattle.lhg_iterate.specs.Outcomes.{plain_solved, IsSolvedBy, IsStoppedBy};
 ghost use Rattle.lhg_iterate.specs.Stages.{IsAfter, IsRoundAfter};
+ghost use Rattle.lhg_iterate.specs.Stops.{IsSpentStop};
 
 use crate::rounds::Round;
 use crate::stages::{Stage, after_round, first_stage, next_round};
@@ -91,11 +92,11 @@ fn settled(
     }
 }
 
-// The budget is spent: a state that its last round removes, the sample of the first record.
-fn spent(alloc: Global, plant: &Plant, budget: u32, stage: &Stage) -> Stop
+/// The budget is spent: a state that its last round removes, the sample of the first record.
+pub(crate) fn spent(alloc: Global, plant: &Plant, budget: u32, stage: &Stage) -> Stop
     requires some { 0 < budget }
     requires stage { IsAfter plant.now budget budget stage.now }
-    ensures { IsStoppedBy (plain_plant plant.now) budget result }
+    ensures { IsSpentStop (plain_plant plant.now) budget result }
 {
     law_work();
     let loss = &stage.losses[stage.before];

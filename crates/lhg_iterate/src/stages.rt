@@ -1,8 +1,8 @@
 // The stages of the iteration: the region after a round, with all records so far.
-ghost use Rattle.std.specs.Prelude.{◌+◌, ◌<◌, length, IfOk, IfErr};
+ghost use Rattle.std.specs.Prelude.{◌+◌, ◌<◌, suc, length, IfOk, IfErr};
 ghost use Rattle.lhg_plant.specs.Views.{plain_plant};
-ghost use Rattle.lhg_iterate.specs.Outcomes.{IsStoppedBy};
 ghost use Rattle.lhg_iterate.specs.Stages.{IsAfter, IsRoundAfter};
+ghost use Rattle.lhg_iterate.specs.Stops.{IsStageStop};
 
 use crate::computing::round;
 use crate::limits::have_rows_within;
@@ -27,7 +27,7 @@ pub(crate) struct Stage {
 /// The stage of round 0: the safe states, with no record.
 pub(crate) fn first_stage(alloc: Global, plant: &Plant, budget: u32) -> Result<Stage, Stop>
     ensures ok { IfOk result (IsAfter plant.now budget 0) }
-    ensures stop { IfErr result (IsStoppedBy (plain_plant plant.now) budget) }
+    ensures stop { IfErr result (IsStageStop (plain_plant plant.now) budget 0) }
 {
     law_stages();
     law_work();
@@ -52,9 +52,8 @@ pub(crate) fn next_round(
     requires within { rounds < budget }
     requires stage { IsAfter plant.now budget rounds stage.now }
     ensures ok { IfOk result (IsRoundAfter plant.now rounds stage.now) }
-    ensures stop { IfErr result (IsStoppedBy (plain_plant plant.now) budget) }
+    ensures stop { IfErr result (IsStageStop (plain_plant plant.now) budget (suc rounds)) }
 {
-    law_work();
     let number = rounds + 1;
     let first = stage.losses.len() as u32 + 1;
     match round(alloc, plant, &stage.region, number, first) {
@@ -76,7 +75,7 @@ pub(crate) fn after_round(
     requires round { IsRoundAfter plant.now rounds stage round }
     requires some { 0 < length round.losses.items }
     ensures ok { IfOk result (IsAfter plant.now budget (rounds + 1)) }
-    ensures stop { IfErr result (IsStoppedBy (plain_plant plant.now) budget) }
+    ensures stop { IfErr result (IsStageStop (plain_plant plant.now) budget (suc rounds)) }
 {
     law_stages();
     law_work();

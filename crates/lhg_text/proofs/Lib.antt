@@ -1,3 +1,4 @@
+pub mod EscapeParts
 pub mod LineValues
 pub mod LinesOfReport
 pub mod OneReading

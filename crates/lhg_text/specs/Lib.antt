@@ -1,3 +1,4 @@
+pub mod EscapeText
 pub mod PlantText
 pub mod ReportConditions
 pub mod ReportLaws

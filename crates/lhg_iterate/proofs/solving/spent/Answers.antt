@@ -1,9 +1,9 @@
-use Rattle.std.proofs.Common.{arith, sym, subst}
+use Rattle.std.proofs.Common.{sym, subst}
 use Rattle.lhg_row.specs.Sample.{sample}
 use Rattle.lhg_plant.specs.Views.{plain_plant}
-use Rattle.lhg_iterate.specs.Outcomes.{IsStoppedBy}
-use Rattle.lhg_iterate.proofs.Halting.{stop_in_rows}
-use Rattle.lhg_iterate.proofs.Settling.{spent-value, sample-part, last-computed}
+use Rattle.lhg_iterate.specs.Stops.{IsSpentStop}
+use Rattle.lhg_iterate.proofs.Settling.{spent-value, sample-lost, sample-part, last-computed}
+use Rattle.lhg_iterate.proofs.StopSteps.{sample_stop}
 use Rattle.lhg_iterate.proofs.solving.spent.Goals as goal
 
 pub returns-in-Ok : goal.returns-in-Ok
@@ -17,6 +17,6 @@ returns-in-Err c =
     let a = plain_plant p in
     let budget = c.args.budget in
     let loss = c.index-loss.result.now in
-    subst (IsStoppedBy a budget) (sym c.halted.ensures)
-    (stop_in_rows a budget budget c.in-Err.halt (sample loss.piece.width loss.piece.lines) (λ x. x) (omega arith) (last-computed p budget c.args.stage.now c.requires.stage c.requires.some loss c.index-loss.ensures)
-    (sample-part p budget c.args.stage.now c.requires.stage c.requires.some loss c.index-loss.ensures (λ j. c.law_work.ensures.marks a budget j)) c.in-Err.ensures.calculus)
+    subst (IsSpentStop a budget) (sym c.halted.ensures)
+    (sample_stop a budget c.in-Err.halt (sample loss.piece.width loss.piece.lines) (λ x. x) (last-computed p budget c.args.stage.now c.requires.stage c.requires.some loss c.index-loss.ensures)
+    (sample-lost p budget c.args.stage.now c.requires.stage c.requires.some loss c.index-loss.ensures) (sample-part p budget c.args.stage.now c.requires.stage c.requires.some loss c.index-loss.ensures) c.in-Err.ensures.calculus)

@@ -1,6 +1,5 @@
-use Rattle.std.proofs.Common.{◌≡◌, ◌+◌, suc, length, refl, arith, sym, ◌∙◌, subst, rules}
+use Rattle.std.proofs.Common.{◌≡◌, ◌+◌, suc, length, refl, arith, sym, ◌∙◌, rules}
 use Rattle.lhg_plant.specs.Views.{plain_plant}
-use Rattle.lhg_loss.specs.WorkLaws.{IsStopIn}
 use Rattle.lhg_iterate.proofs.StageSteps.{after-next, totals-stop, not-true}
 use Rattle.lhg_iterate.proofs.stages.after_round.Goals as goal
 
@@ -14,9 +13,7 @@ returns-then-have_rows_within-clause-ok c =
 pub returns-clause-stop : goal.returns-clause-stop
 returns-clause-stop c =
     let p = c.args.plant.now in
-    let a = plain_plant p in
     let i = c.args.rounds in
     let number_is : i + 1 ≡ suc i = omega arith in
     let past = not-true _ (sym c.if-have_rows_within.false ∙ c.have_rows_within.ensures) in
-    subst (λ k. IsStopIn a c.args.budget k (λ m. m.pieces)) (sym number_is)
-    (totals-stop p c.args.budget i c.args.stage c.args.round c.requires.stage c.requires.round (c.law_work.ensures.marks a c.args.budget i) c.requires.within c.deref.result.now (c.deref.ensures.value ∙ c.in_ok-append.ensures.items) past)
+    totals-stop p c.args.budget i c.args.stage c.args.round c.requires.stage c.requires.round c.requires.within c.deref.result.now (c.deref.ensures.value ∙ c.in_ok-append.ensures.items) past (i + 1) number_is

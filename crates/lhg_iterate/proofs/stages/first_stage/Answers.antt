@@ -1,10 +1,10 @@
-use Rattle.std.proofs.Common.{arith, sym, subst}
+use Rattle.std.proofs.Common.{arith, refl, sym, subst}
 use Rattle.lhg_plant.specs.SafeRegion.{safe_region}
 use Rattle.lhg_plant.specs.Views.{plain_plant}
 use Rattle.lhg_union.specs.Regions.{plain_region}
-use Rattle.lhg_iterate.specs.Outcomes.{IsStoppedBy}
-use Rattle.lhg_iterate.proofs.Halting.{stop_in_rows}
+use Rattle.lhg_iterate.specs.Stops.{IsStageStop}
 use Rattle.lhg_iterate.proofs.StageSteps.{begins}
+use Rattle.lhg_iterate.proofs.StopSteps.{stage-safe, stage_stop_rows}
 use Rattle.lhg_iterate.proofs.stages.first_stage.Goals as goal
 
 pub returns-in-Ok-clause-ok : goal.returns-in-Ok-clause-ok
@@ -15,5 +15,5 @@ returns-in-Ok-clause-ok c =
 pub returns-in-Err-clause-stop : goal.returns-in-Err-clause-stop
 returns-in-Err-clause-stop c =
     let a = plain_plant c.args.plant.now in
-    subst (IsStoppedBy a c.args.budget) (sym c.halted.ensures)
-    (stop_in_rows a c.args.budget 0 c.in-Err.halt (safe_region a) (λ r. plain_region r.pieces.items) (omega arith) (c.law_work.ensures.steps a).computed_first.0 (c.law_work.ensures.marks a c.args.budget 0).safe c.in-Err.ensures.calculus)
+    subst (IsStageStop a c.args.budget 0) (sym c.halted.ensures)
+    (stage_stop_rows a c.args.budget 0 0 c.in-Err.halt (safe_region a) (λ r. plain_region r.pieces.items) refl (omega arith) (c.law_work.ensures.steps a).computed_first.0 (stage-safe a) c.in-Err.ensures.calculus)

@@ -2,10 +2,10 @@ use Rattle.std.proofs.Common.{◌≡◌, ◌+◌, suc, length, arith, sym, ap, s
 use Rattle.lhg_plant.specs.Views.{plain_plant}
 use Rattle.lhg_union.specs.Regions.{plain_region}
 use Rattle.lhg_loss.specs.Records.{one_round}
-use Rattle.lhg_iterate.specs.Outcomes.{IsStoppedBy, stop_of}
 use Rattle.lhg_iterate.specs.RoundViews.{plain_round}
-use Rattle.lhg_iterate.proofs.Halting.{stop_in}
+use Rattle.lhg_iterate.specs.Stops.{IsStageStop}
 use Rattle.lhg_iterate.proofs.StageSteps.{round-part, round-after}
+use Rattle.lhg_iterate.proofs.StopSteps.{stage_stop}
 use Rattle.lhg_iterate.proofs.stages.next_round.Goals as goal
 
 pub round-requires-clause-region : goal.round-requires-clause-region
@@ -30,6 +30,6 @@ returns-in-Err-clause-stop c =
     let many : c.len.result ≡ length s.losses.items = search rules in
     let first_is = ap (λ k. k + 1) many in
     let number_is : i + 1 ≡ suc i = omega arith in
-    let at : IsStoppedBy a c.args.budget (stop_of c.in-Err.halt (suc i)) = stop_in a c.args.budget (suc i) c.in-Err.halt (one_round a (plain_region s.region.pieces.items) (i + 1) first) plain_round (omega arith) c.requires.stage.computed
-    (round-part c.args.plant.now c.args.budget i s (i + 1) first number_is first_is (c.law_work.ensures.marks a c.args.budget i) c.requires.stage) c.in-Err.ensures.calculus in
-    subst (IsStoppedBy a c.args.budget) (sym c.halted.ensures) (subst (λ k. IsStoppedBy a c.args.budget (stop_of c.in-Err.halt k)) (sym number_is) at)
+    subst (IsStageStop a c.args.budget (suc i)) (sym c.halted.ensures)
+    (stage_stop a c.args.budget (suc i) (i + 1) c.in-Err.halt (one_round a (plain_region s.region.pieces.items) (i + 1) first) plain_round number_is (omega arith) c.requires.stage.computed
+    (round-part c.args.plant.now c.args.budget i s (i + 1) first number_is first_is c.requires.stage) c.in-Err.ensures.calculus)

@@ -1,0 +1,9 @@
+pub mod CodeSteps
+pub mod Escapes
+pub mod FlowPoints
+pub mod FlowRows
+pub mod HeldRecords
+pub mod NextSteps
+pub mod RecordSteps
+pub mod SamplePoints
+pub mod WaySteps

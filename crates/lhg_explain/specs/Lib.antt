@@ -1,0 +1,4 @@
+pub mod Explained
+pub mod Explanation
+pub mod Results
+pub mod Views
