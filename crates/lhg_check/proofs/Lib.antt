@@ -1,0 +1,9 @@
+pub mod CheckGuards
+pub mod CheckLists
+pub mod CheckPast
+pub mod CheckSafe
+pub mod CheckSolved
+pub mod Checks
+pub mod Marks
+pub mod PastSplit
+pub mod WorkedValid
