@@ -4,6 +4,10 @@ pub mod CheckPast
 pub mod CheckSafe
 pub mod CheckSolved
 pub mod Checks
+pub mod EscapeSteps
+pub mod FirstSteps
+pub mod InsideSteps
 pub mod Marks
+pub mod NearSteps
 pub mod PastSplit
 pub mod WorkedValid

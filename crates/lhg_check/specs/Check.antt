@@ -69,10 +69,14 @@ stuck_by a c e target = and_then (pre a e target) (minus frac_arithmetic (length
 abbrev pub led_by : PlainPlant → PlainController → ℕ → List PlainPiece → Marked (List PlainPiece)
 led_by a c e target = and_then (pre a e target) (meet_lists frac_arithmetic (length a.vars) (get_or c.guards e []))
 
--- the states that break the guard of a switch whose result the plant picks: those that are not in the region, then those with no
--- result, then those with a result outside the region
+-- those with no result, then those with a result outside the region
+abbrev pub unkept_by : PlainPlant → PlainRegion → PlainRegion → PlainController → ℕ → PlainSwitch → Marked (List PlainPiece)
+unkept_by a invs away c e w = followed (stuck_by a c e (pieces_at invs w.to)) (led_by a c e (pieces_at away w.to))
+
+-- the states that break the guard of a switch whose result the plant picks: those that are not in the region, then those that the switch
+-- does not keep in it
 unfoldable pub broken_ctl : PlainPlant → PlainRegion → PlainRegion → PlainController → ℕ → PlainSwitch → Marked (List PlainPiece)
-broken_ctl a invs away c e w = followed (outside_by a c e w) (followed (stuck_by a c e (pieces_at invs w.to)) (led_by a c e (pieces_at away w.to)))
+broken_ctl a invs away c e w = followed (outside_by a c e w) (unkept_by a invs away c e w)
 
 -- those that break the guard of a switch whose result the controller picks: those that are not in the region, then those with no
 -- result in it

@@ -75,14 +75,7 @@ fn lost_at(
         let piece = hit.piece.copy(alloc)?;
         return Ok(Some(piece));
     }
-    found_from(
-        alloc,
-        plant,
-        controller,
-        &outs.away.pieces[l],
-        l,
-        location,
-    )
+    found_from(alloc, plant, controller, &outs.away.pieces[l], l, location)
 }
 
 // The first piece that is found from bad pieces, past the guards.

@@ -36,7 +36,15 @@ pub(crate) fn first_broken(
     let invs = invariants(alloc, plant)?;
     for e in 0..plant.switches.len() {
         let switch = &plant.switches[e];
-        let piece = broken_by(alloc, plant, controller, &invs, &away.pieces, e as u32, switch)?;
+        let piece = broken_by(
+            alloc,
+            plant,
+            controller,
+            &invs,
+            &away.pieces,
+            e as u32,
+            switch,
+        )?;
         if let Some(piece) = piece {
             return Ok(Some(First {
                 place: e as u32,
@@ -90,14 +98,35 @@ fn broken_ctl(
     ensures vars { IfOk result (λ o. IfSome o (λ p. p.width ≡ length plant.now.vars.items)) }
 {
     let outside = outside_by(alloc, plant, controller, e, switch)?;
-    if outside.is_some() {
-        return Ok(outside);
+    match outside {
+        Some(piece) => Ok(Some(piece)),
+        None => unkept_by(alloc, plant, controller, invs, away, e, switch),
     }
-    let stuck = stuck_by(alloc, plant, controller, e, &invs[switch.to as usize])?;
-    if stuck.is_some() {
-        return Ok(stuck);
+}
+
+// The first piece of those that the switch does not keep: with no result, or with one outside the region.
+fn unkept_by(
+    alloc: Global,
+    plant: &Plant,
+    controller: &Controller,
+    invs: &[Vec<Poly<Frac>>],
+    away: &[Vec<Poly<Frac>>],
+    e: u32,
+    switch: &Switch,
+) -> Result<Option<Poly<Frac>>, Halt>
+    requires controller { IsChecked plant.now controller.now }
+    requires invs { IsRegionOf plant.now invs.now }
+    requires away { IsRegionOf plant.now away.now }
+    requires switch { slice_get (plain_plant plant.now).switches e ≡ Some (plain_switch switch.now) }
+    ensures calculus { IsHaltedBy result (valued calculus.first_of (calculus.unkept_by (plain_plant plant.now) (plain_region invs.now) (plain_region away.now) (plain_controller controller.now) e (plain_switch switch.now))) plain_piece }
+    ensures vars { IfOk result (λ o. IfSome o (λ p. p.width ≡ length plant.now.vars.items)) }
+{
+    let to = switch.to as usize;
+    let stuck = stuck_by(alloc, plant, controller, e, &invs[to])?;
+    match stuck {
+        Some(piece) => Ok(Some(piece)),
+        None => led_by(alloc, plant, controller, e, &away[to]),
     }
-    led_by(alloc, plant, controller, e, &away[switch.to as usize])
 }
 
 // Where the controller picks it.
@@ -114,11 +143,13 @@ fn broken_pick(
     ensures vars { IfOk result (λ o. IfSome o (λ p. p.width ≡ length plant.now.vars.items)) }
 {
     let outside = outside_by(alloc, plant, controller, e, switch)?;
-    if outside.is_some() {
-        return Ok(outside);
+    match outside {
+        Some(piece) => Ok(Some(piece)),
+        None => {
+            let region = &controller.region.pieces;
+            stuck_by(alloc, plant, controller, e, &region[switch.to as usize])
+        }
     }
-    let region = &controller.region.pieces;
-    stuck_by(alloc, plant, controller, e, &region[switch.to as usize])
 }
 
 // The first piece of the states of the guard that are not in the region.

@@ -29,11 +29,7 @@ pub(crate) fn invariants(alloc: Global, plant: &Plant) -> Result<Vec<Vec<Poly<Fr
 }
 
 // That of one location over this many variables.
-fn invariant_list(
-    alloc: Global,
-    vars: usize,
-    location: &Location,
-) -> Result<Vec<Poly<Frac>>, Halt>
+fn invariant_list(alloc: Global, vars: usize, location: &Location) -> Result<Vec<Poly<Frac>>, Halt>
     requires { AllWide vars (plain_location location.now).inv }
     ensures calculus { IsHaltedByRows result (calculus.invariant_list vars (plain_location location.now)) (λ v. lines_of v.items) }
     ensures vars { IfOk result (λ v. AllVars vars v.items) }

@@ -32,7 +32,14 @@ pub(crate) fn near_at(
     let mut near = copies(alloc, &controller.region.pieces[l])?;
     for e in 0..plant.switches.len() {
         let switch = &plant.switches[e];
-        near = less_guard(alloc, plant.vars.len(), switch, &controller.guards[e], l, near)?;
+        near = less_guard(
+            alloc,
+            plant.vars.len(),
+            switch,
+            &controller.guards[e],
+            l,
+            near,
+        )?;
     }
     Ok(near)
 }

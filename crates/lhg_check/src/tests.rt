@@ -13,7 +13,8 @@ use lhg_union::Region;
 use std::alloc::Global;
 use std::test::Fail;
 
-const THERMOSTAT: &[u8] = b"lhg 1\nvars x\nloc heat\ninv 0 <= x <= 40\nflow 1 <= x <= 2\nsafe 18 <= x <= 22
+const THERMOSTAT: &[u8] =
+    b"lhg 1\nvars x\nloc heat\ninv 0 <= x <= 40\nflow 1 <= x <= 2\nsafe 18 <= x <= 22
 loc cool\ninv 0 <= x <= 40\nflow -2 <= x <= -1\nsafe 18 <= x <= 22\nswitch off ctl heat cool keep\nswitch on ctl cool heat keep\nend\n";
 
 fn list(alloc: Global, bounds: &[(i64, i64)]) -> Result<Vec<Poly<Frac>>, Fail> {
@@ -47,13 +48,20 @@ fn seen(verdict: &Verdict) -> (u32, u32, u32, i128) {
     }
 }
 
-fn checked(alloc: Global, text: &[u8], region: &[&[(i64, i64)]], guards: &[&[(i64, i64)]]) -> Result<(u32, u32, u32, i128), Fail>
+fn checked(
+    alloc: Global,
+    text: &[u8],
+    region: &[&[(i64, i64)]],
+    guards: &[&[(i64, i64)]],
+) -> Result<(u32, u32, u32, i128), Fail>
     requires { length text.now ≤ TEXT_LIMIT }
 {
     let mut lines = Lines::new(text);
     let plant = read_plant(alloc, &mut lines)?;
     let controller = Controller {
-        region: Region { pieces: lists(alloc, region)? },
+        region: Region {
+            pieces: lists(alloc, region)?,
+        },
         guards: lists(alloc, guards)?,
     };
     let verdict = check(alloc, &plant, &controller)?;
@@ -63,11 +71,49 @@ fn checked(alloc: Global, text: &[u8], region: &[&[(i64, i64)]], guards: &[&[(i6
 #[test]
 fn thermostat(rt: HostRuntime) -> Result<(), Fail> {
     let alloc = rt.alloc();
-    assert_eq!(rt; checked(alloc, THERMOSTAT, &[&[(18, 22)], &[(18, 22)]], &[&[(18, 22)], &[(18, 22)]])?, (0, 0, 0, 0));
-    assert_eq!(rt; checked(alloc, THERMOSTAT, &[&[(18, 22)], &[(18, 22)]], &[&[], &[(18, 22)]])?, (3, 0, 0, 22));
-    assert_eq!(rt; checked(alloc, THERMOSTAT, &[&[(18, 23)], &[(18, 22)]], &[&[(18, 22)], &[(18, 22)]])?, (1, 0, 0, 23));
-    assert_eq!(rt; checked(alloc, THERMOSTAT, &[&[(18, 22)], &[(18, 22)]], &[&[(10, 22)], &[(18, 22)]])?, (2, 0, 0, 10));
-    assert_eq!(rt; checked(alloc, THERMOSTAT, &[&[], &[]], &[&[], &[]])?, (0, 0, 0, 0));
-    assert_eq!(rt; checked(alloc, THERMOSTAT, &[&[], &[]], &[&[(0, 40)], &[]])?, (2, 0, 0, 0));
+    assert_eq!(rt;
+        checked(
+            alloc,
+            THERMOSTAT,
+            &[&[(18, 22)], &[(18, 22)]],
+            &[&[(18, 22)], &[(18, 22)]]
+        )?,
+        (0, 0, 0, 0)
+    );
+    assert_eq!(rt;
+        checked(
+            alloc,
+            THERMOSTAT,
+            &[&[(18, 22)], &[(18, 22)]],
+            &[&[], &[(18, 22)]]
+        )?,
+        (3, 0, 0, 22)
+    );
+    assert_eq!(rt;
+        checked(
+            alloc,
+            THERMOSTAT,
+            &[&[(18, 23)], &[(18, 22)]],
+            &[&[(18, 22)], &[(18, 22)]]
+        )?,
+        (1, 0, 0, 23)
+    );
+    assert_eq!(rt;
+        checked(
+            alloc,
+            THERMOSTAT,
+            &[&[(18, 22)], &[(18, 22)]],
+            &[&[(10, 22)], &[(18, 22)]]
+        )?,
+        (2, 0, 0, 10)
+    );
+    assert_eq!(rt;
+        checked(alloc, THERMOSTAT, &[&[], &[]], &[&[], &[]])?,
+        (0, 0, 0, 0)
+    );
+    assert_eq!(rt;
+        checked(alloc, THERMOSTAT, &[&[], &[]], &[&[(0, 40)], &[]])?,
+        (2, 0, 0, 0)
+    );
     Ok(())
 }
