@@ -10,4 +10,5 @@ pub mod InsideSteps
 pub mod Marks
 pub mod NearSteps
 pub mod PastSplit
+pub mod Verdicts
 pub mod WorkedValid
