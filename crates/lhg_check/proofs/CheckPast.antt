@@ -152,6 +152,12 @@ module _ (a : PlainPlant) (proper : IsProper a) (c : PlainController) (given : I
     without_hits place none r =
         subst (λ (ps : List PlainPiece). IsReachedFrom a c ps l place) (append-nil away) (subst (λ (hs : List PlainHit). IsReachedFrom a c (away ++ hit_pieces hs) l place) none r)
 
+    -- the pieces that are lost there begin with those of the hits
+    hits_begin : (place : PlainLocation) (hit : PlainHit) (hs : List PlainHit) → hits ≡ hit ∷ hs
+        → (lost_at a c (out a c.region).value (l, place)).value ≡ hit.piece ∷ (hit_pieces hs ++ (found_from a c (away ++ hit_pieces hits) (l, place)).value)
+    unfolding lost_at
+    hits_begin place hit hs some = ap (λ (w : List PlainHit). hit_pieces w ++ (found_from a c (away ++ hit_pieces hits) (l, place)).value) some
+
     -- the first piece that is lost there, from the hits
     first_by : (place : PlainLocation) → slice_get a.locs l ≡ Some place → IsReachedPast a c (out a c.region).value l → (piece : PlainPiece) (rest : List PlainPiece) → (hs : List PlainHit) → hits ≡ hs
         → (lost_at a c (out a c.region).value (l, place)).value ≡ piece ∷ rest → BreaksClosed a c (state_at l (sample n piece).value)
@@ -161,11 +167,6 @@ module _ (a : PlainPlant) (proper : IsProper a) (c : PlainController) (given : I
         let begins = hits_begin place hit hs some in
         let same : hit.piece ≡ piece = cc in
         subst (λ (w : PlainPiece). BreaksClosed a c (state_at l (sample n w).value)) same (hit_sample a c l hit hs are)
-      where
-        hits_begin : (place : PlainLocation) (hit : PlainHit) (hs : List PlainHit) → hits ≡ hit ∷ hs
-            → (lost_at a c (out a c.region).value (l, place)).value ≡ hit.piece ∷ (hit_pieces hs ++ (found_from a c (away ++ hit_pieces hits) (l, place)).value)
-        unfolding lost_at
-        hits_begin place hit hs some = ap (λ (w : List PlainHit). hit_pieces w ++ (found_from a c (away ++ hit_pieces hits) (l, place)).value) some
 
     -- where no piece is lost there, there is no hit
     none_hit : (place : PlainLocation) → (lost_at a c (out a c.region).value (l, place)).value ≡ [] → hits ≡ []
@@ -186,7 +187,7 @@ module _ (a : PlainPlant) (proper : IsProper a) (c : PlainController) (given : I
     lost_first reached piece rest e = first_of_place reached piece rest (slice_get a.locs l) refl (sym (each_numbered (lost_at a c (out a c.region).value) a.locs l) ∙ e)
 
     none_of_place : IsReachedPast a c (out a c.region).value l → (o : Option PlainLocation) → slice_get a.locs l ≡ o → at_or (lost_at a c (out a c.region).value) l o ≡ [] → (p : PlainPoint) → length p ≡ n → ¬ BreaksClosed a c (state_at l p)
-    none_of_place reached None is e p fits h = subst (λ (o : Option PlainLocation). IsSomeAnd o (λ w. InPiece w.inv p)) is h.0.state.inside
+    none_of_place reached None is e = λ p fits h. subst (λ (o : Option PlainLocation). IsSomeAnd o (λ w. InPiece w.inv p)) is h.0.state.inside
     none_of_place reached (Some place) is e = none_in n (λ p. BreaksClosed a c (state_at l p)) (lost_at a c (out a c.region).value (l, place)).value (lost_here place is (let none = none_hit place e in with_hits place none (reached place is none))) e
 
     -- where no piece is lost there, no state breaks it

@@ -6,9 +6,11 @@ pub mod CheckSolved
 pub mod Checks
 pub mod EscapeSteps
 pub mod FirstSteps
+pub mod GuardSteps
 pub mod InsideSteps
 pub mod Marks
 pub mod NearSteps
 pub mod PastSplit
-pub mod Verdicts
+pub mod SafetySteps
+pub mod VerdictSteps
 pub mod WorkedValid

@@ -55,7 +55,7 @@ pub(crate) fn first_broken(
     Ok(None)
 }
 
-// The first piece of the states that break the guard of switch e. The lists are those of all locations: the invariants, and the
+// The first piece of the states that break the guard of switch e. A guard without a piece has none. The lists are those of all locations: the invariants, and the
 // states outside the region.
 fn broken_by(
     alloc: Global,
@@ -73,6 +73,9 @@ fn broken_by(
     ensures calculus { IsHaltedBy result (valued calculus.first_of (calculus.broken_at (plain_plant plant.now) (plain_region invs.now) (plain_region away.now) (plain_controller controller.now) (e, plain_switch switch.now))) plain_piece }
     ensures vars { IfOk result (λ o. IfSome o (λ p. p.width ≡ length plant.now.vars.items)) }
 {
+    if controller.guards[e as usize].is_empty() {
+        return Ok(None);
+    }
     match switch.side {
         Side::Ctl => broken_ctl(alloc, plant, controller, invs, away, e, switch),
         Side::Env => Ok(None),
