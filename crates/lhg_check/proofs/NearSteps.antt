@@ -21,8 +21,6 @@ use Rattle.lhg_plant.specs.BackCalculus.{joined_at, back_at, near_at}
 use Rattle.lhg_plant.specs.Views.{plain_switch}
 
 -- ---- a list by two lists, one after the other
-either : {A B C : Type 0} (p q r : A) → A → A
-
 -- the marks of a walk over the first list are among those of the walk over both
 walk-first : {S A : Type 0} (f : S → A → Marked S) (s : S) (xs ys : List A) → IsPart (walk f s (xs ++ ys)) (walk f s xs)
 walk-first f s [] ys = record { wide = λ h. false_true h; rows = λ h. false_true h; pieces = λ h. false_true h }
