@@ -12,5 +12,6 @@ pub mod Marks
 pub mod NearSteps
 pub mod PastSplit
 pub mod SafetySteps
+pub mod TestSteps
 pub mod VerdictSteps
 pub mod WorkedValid

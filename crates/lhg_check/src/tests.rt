@@ -1,119 +1,73 @@
-//! Controllers and their verdicts.
+//! The safe states of known plants as controllers, with the guards that keep them.
 ghost use Rattle.std.specs.Prelude.{◌≤◌, length};
 
 use crate::{Verdict, check};
 use lhg_ctl::Controller;
+use lhg_jump::{guards, safe_region};
 use lhg_lex::{Lines, TEXT_LIMIT};
 use lhg_num::Frac;
-use lhg_plant::Plant;
-use lhg_poly::{Poly, make};
+use lhg_plant::State;
 use lhg_read::read_plant;
-use lhg_row::{Kind, whole_row};
-use lhg_union::Region;
 use std::alloc::Global;
 use std::test::Fail;
 
+// It can be switched in time.
 const THERMOSTAT: &[u8] =
     b"lhg 1\nvars x\nloc heat\ninv 0 <= x <= 40\nflow 1 <= x <= 2\nsafe 18 <= x <= 22
 loc cool\ninv 0 <= x <= 40\nflow -2 <= x <= -1\nsafe 18 <= x <= 22\nswitch off ctl heat cool keep\nswitch on ctl cool heat keep\nend\n";
 
-fn list(alloc: Global, bounds: &[(i64, i64)]) -> Result<Vec<Poly<Frac>>, Fail> {
-    let mut out = Vec::new(alloc);
-    for (from, to) in bounds {
-        let mut rows = Vec::new(alloc);
-        rows.push(whole_row(alloc, &[-1], Kind::Weak, -*from)?)?;
-        rows.push(whole_row(alloc, &[1], Kind::Weak, *to)?)?;
-        match make(alloc, 1, rows)? {
-            Some(piece) => out.push(piece)?,
-            None => {}
-        }
-    }
-    Ok(out)
-}
+// It can be switched off too late only.
+const LATE: &[u8] =
+    b"lhg 1\nvars x\nloc heat\ninv 0 <= x <= 40\nflow 1 <= x <= 2\nsafe 18 <= x <= 22
+loc cool\ninv 0 <= x <= 40\nflow -2 <= x <= -1\nsafe 18 <= x <= 22\nswitch off ctl heat cool x >= 23, keep\nswitch on ctl cool heat keep\nend\n";
 
-fn lists(alloc: Global, all: &[&[(i64, i64)]]) -> Result<Vec<Vec<Poly<Frac>>>, Fail> {
-    let mut out = Vec::new(alloc);
-    for bounds in all {
-        out.push(list(alloc, bounds)?)?;
-    }
-    Ok(out)
-}
+// The controller picks where x stands in `rest`, which is safe up to 5.
+const PICKED: &[u8] = b"lhg 1\nvars x\nloc run\ninv 0 <= x <= 10\nflow x = 1\nsafe x <= 8
+loc rest\ninv 0 <= x <= 10\nsafe x <= 5\nswitch go pick run rest all\nend\n";
 
-fn seen(verdict: &Verdict) -> (u32, u32, u32, i128) {
-    match verdict {
-        Verdict::Valid => (0, 0, 0, 0),
-        Verdict::Unsafe(s) => (1, 0, s.loc, s.at.at[0].numer()),
-        Verdict::BadGuard { switch, state } => (2, *switch, state.loc, state.at.at[0].numer()),
-        Verdict::Escapes(s) => (3, 0, s.loc, s.at.at[0].numer()),
-    }
-}
+// The plant doubles x, which is safe up to 1.
+const DOUBLED: &[u8] =
+    b"lhg 1\nvars x\nloc grow\ninv x >= 0\nsafe x <= 1\nswitch double env grow grow x' = 2*x\nend\n";
 
-fn checked(
-    alloc: Global,
-    text: &[u8],
-    region: &[&[(i64, i64)]],
-    guards: &[&[(i64, i64)]],
-) -> Result<(u32, u32, u32, i128), Fail>
+// What an answer says: its kind, the location, and the value of x.
+type Said = (u32, u32, Frac);
+
+// The safe states of a plant, with their guards, are checked.
+fn checked(alloc: Global, text: &[u8]) -> Result<Verdict, Fail>
     requires { length text.now ≤ TEXT_LIMIT }
 {
     let mut lines = Lines::new(text);
     let plant = read_plant(alloc, &mut lines)?;
-    let controller = Controller {
-        region: Region {
-            pieces: lists(alloc, region)?,
-        },
-        guards: lists(alloc, guards)?,
-    };
-    let verdict = check(alloc, &plant, &controller)?;
-    Ok(seen(&verdict))
+    let region = safe_region(alloc, &plant)?;
+    let guards = guards(alloc, &plant, &region)?;
+    let controller = Controller { region, guards };
+    Ok(check(alloc, &plant, &controller)?)
+}
+
+// The state with one variable that an answer shows.
+fn seen(kind: u32, state: &State) -> Option<Said> {
+    let at = state.at.at.first()?;
+    Some((kind, state.loc, *at))
+}
+
+// What an answer says, where it is not that the controller is valid.
+fn said(verdict: &Verdict) -> Option<Said> {
+    match verdict {
+        Verdict::Valid => None,
+        Verdict::Unsafe(state) => seen(1, state),
+        Verdict::BadGuard { state, .. } => seen(2, state),
+        Verdict::Escapes(state) => seen(3, state),
+    }
 }
 
 #[test]
-fn thermostat(rt: HostRuntime) -> Result<(), Fail> {
+fn known_plants(rt: HostRuntime) -> Result<(), Fail> {
     let alloc = rt.alloc();
-    assert_eq!(rt;
-        checked(
-            alloc,
-            THERMOSTAT,
-            &[&[(18, 22)], &[(18, 22)]],
-            &[&[(18, 22)], &[(18, 22)]]
-        )?,
-        (0, 0, 0, 0)
-    );
-    assert_eq!(rt;
-        checked(
-            alloc,
-            THERMOSTAT,
-            &[&[(18, 22)], &[(18, 22)]],
-            &[&[], &[(18, 22)]]
-        )?,
-        (3, 0, 0, 22)
-    );
-    assert_eq!(rt;
-        checked(
-            alloc,
-            THERMOSTAT,
-            &[&[(18, 23)], &[(18, 22)]],
-            &[&[(18, 22)], &[(18, 22)]]
-        )?,
-        (1, 0, 0, 23)
-    );
-    assert_eq!(rt;
-        checked(
-            alloc,
-            THERMOSTAT,
-            &[&[(18, 22)], &[(18, 22)]],
-            &[&[(10, 22)], &[(18, 22)]]
-        )?,
-        (2, 0, 0, 10)
-    );
-    assert_eq!(rt;
-        checked(alloc, THERMOSTAT, &[&[], &[]], &[&[], &[]])?,
-        (0, 0, 0, 0)
-    );
-    assert_eq!(rt;
-        checked(alloc, THERMOSTAT, &[&[], &[]], &[&[(0, 40)], &[]])?,
-        (2, 0, 0, 0)
-    );
+    assert!(rt; matches!(checked(alloc, THERMOSTAT)?, Verdict::Valid));
+    assert!(rt; matches!(checked(alloc, PICKED)?, Verdict::Valid));
+    let late = checked(alloc, LATE)?;
+    assert_eq!(rt; said(&late), Some((3, 0, Frac::from(22))));
+    let doubled = checked(alloc, DOUBLED)?;
+    assert_eq!(rt; said(&doubled), Some((3, 0, Frac::from(1))));
     Ok(())
 }

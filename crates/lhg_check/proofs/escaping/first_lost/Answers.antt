@@ -72,6 +72,6 @@ returns-clause-reached c =
     let a = plain_plant p in
     let past : length p.locs.items ≤ c.loop-l.l = search rules in
     λ i place is none.
-        let within = slice_get_within a.locs i place is in
-        let below : i < c.loop-l.l = omega (arith, past, length-map p.locs.items plain_location) in
-        c.loop-l.invariant.reached i below place is none
+    let within = slice_get_within a.locs i place is in
+    let below : i < c.loop-l.l = omega (arith, past, length-map p.locs.items plain_location) in
+    c.loop-l.invariant.reached i below place is none

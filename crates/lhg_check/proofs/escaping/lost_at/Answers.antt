@@ -115,6 +115,6 @@ returns-clause-reached c =
     let same = ap lines_of c.deref-2.ensures.value ∙ lines-at ys l c.index-2.result.now c.index-2.ensures in_away in
     ok_then c.found_from.result (IsReachedFrom a ct (lines_of c.deref-2.result.now) l (plain_location c.args.location.now)) (IsReachedPast a ct (plain_outs o) l)
     (λ h place is none.
-        subst (λ (w : PlainLocation). IsReachedFrom a ct (pieces_at (plain_region ys) l) l w) (same-there (slice_get a.locs l) (plain_location c.args.location.now) place c.requires.location is)
-        (subst (λ (ps : List PlainPiece). IsReachedFrom a ct ps l (plain_location c.args.location.now)) same h))
+    subst (λ (w : PlainLocation). IsReachedFrom a ct (pieces_at (plain_region ys) l) l w) (same-there (slice_get a.locs l) (plain_location c.args.location.now) place c.requires.location is)
+    (subst (λ (ps : List PlainPiece). IsReachedFrom a ct ps l (plain_location c.args.location.now)) same h))
     c.found_from.ensures.reached
