@@ -1,0 +1,17 @@
+pub mod CheckGuards
+pub mod CheckLists
+pub mod CheckPast
+pub mod CheckSafe
+pub mod CheckSolved
+pub mod Checks
+pub mod EscapeSteps
+pub mod FirstSteps
+pub mod GuardSteps
+pub mod InsideSteps
+pub mod Marks
+pub mod NearSteps
+pub mod PastSplit
+pub mod SafetySteps
+pub mod TestSteps
+pub mod VerdictSteps
+pub mod WorkedValid

@@ -1,0 +1,18 @@
+//! Whether a controller is valid, and a state that shows it where it is not.
+#![tactic(auto)]
+
+mod checking;
+mod escaping;
+mod firsts;
+mod guarding;
+mod invariants;
+pub mod laws;
+mod near;
+mod safety;
+mod telling;
+#[cfg(test)]
+mod tests;
+mod verdicts;
+
+pub use checking::check;
+pub use verdicts::Verdict;
