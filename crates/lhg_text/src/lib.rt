@@ -1,8 +1,4 @@
-<<<<<<< HEAD
-//! Plants, reports and traces as texts.
-=======
-//! Plants, reports and explanations as texts.
->>>>>>> d3774017912a60dcaa21175bb9ab0ad7c0d67c05
+//! Plants, reports, traces and explanations as texts.
 #![tactic(auto)]
 
 #[cfg(test)]
