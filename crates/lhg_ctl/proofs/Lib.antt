@@ -9,6 +9,7 @@ pub mod GuardSteps
 pub mod HeadLine
 pub mod LineSteps
 pub mod LinesRead
+pub mod Listing
 pub mod LogLawProofs
 pub mod LogMachine
 pub mod LogStart
