@@ -26,3 +26,4 @@ pub mod PrintedLines
 pub mod ReadingSteps
 pub mod SecondTexts
 pub mod SwitchPlaces
+pub mod TextEnds
