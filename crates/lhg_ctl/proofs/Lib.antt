@@ -9,6 +9,7 @@ pub mod GuardSteps
 pub mod HeadLine
 pub mod LineSteps
 pub mod LinesRead
+pub mod Listing
 pub mod LogLawProofs
 pub mod LogMachine
 pub mod LogStart
@@ -25,3 +26,4 @@ pub mod PrintedLines
 pub mod ReadingSteps
 pub mod SecondTexts
 pub mod SwitchPlaces
+pub mod TextEnds

@@ -14,6 +14,7 @@ pub mod LogViews
 pub mod Making
 pub mod MakingLaws
 pub mod NamedLines
+pub mod NameLists
 pub mod Numbered
 pub mod Views
 pub mod Written

@@ -9,6 +9,7 @@ pub mod laws;
 mod log_lines;
 mod logs;
 mod making;
+mod name_lists;
 mod numbered;
 mod open_drafts;
 mod open_logs;

@@ -1,7 +1,6 @@
 // A controller that is being read, line by line.
 ghost use Rattle.std.specs.Prelude.{◌≡◌, ◌<◌, ◌+◌, ℕ, length, get_or, replicate, set, nat_lt, Some, None, IfOk, OnOk};
 ghost use Rattle.lhg_row.specs.Lists.{piece_limit};
-ghost use Rattle.lhg_plant.specs.Differ.{is_among};
 ghost use Rattle.lhg_read.specs.Refusals.{IsRead};
 ghost use Rattle.lhg_ctl.specs.ControllerLine.{rounds, piece, guard, end};
 ghost use Rattle.lhg_ctl.specs.ControllerSteps as plain;
@@ -11,6 +10,7 @@ ghost use Rattle.lhg_ctl.specs.Views.{plain_placed, plain_open};
 ghost use Rattle.lhg_ctl.specs.declared.versions.Version.TheVariants.{First, Second};
 
 use crate::controllers::Draft;
+use crate::name_lists::{LIST_COUNT, is_listed, list_name, no_names};
 use crate::versions::Version;
 use itoa::Buffer;
 use lhg_num::Frac;
@@ -32,6 +32,8 @@ pub(crate) struct OpenDraft {
     pub piece_counts: Vec<u32>,
     /// How many guards of each switch are read.
     pub guard_counts: Vec<u32>,
+    /// The names of the guards, each in the list that its bytes say.
+    pub name_lists: Vec<Vec<Name>>,
 }
 
 // A count of nothing for each of so many places.
@@ -62,13 +64,6 @@ fn count_one(counts: &mut Vec<u32>, place: u32)
     counts[place as usize] += 1;
 }
 
-// Whether the name is among these.
-fn is_among(name: &Name, names: &[Name]) -> bool
-    ensures { result ≡ is_among name.now names.now }
-{
-    names.iter().any(|other| other.bytes() == name.bytes())
-}
-
 // The name of a guard that is written without one, by its number.
 fn guard_name(alloc: Global, number: usize) -> Result<Name, AllocError>
     ensures { IfOk result (λ w. w ≡ guard_name number) }
@@ -92,6 +87,7 @@ impl OpenDraft {
     {
         let piece_counts = no_counts(alloc, plant.locs.len())?;
         let guard_counts = no_counts(alloc, plant.switches.len())?;
+        let name_lists = no_names(alloc, LIST_COUNT)?;
         Ok(OpenDraft {
             version,
             begun: version == Version::First,
@@ -104,6 +100,7 @@ impl OpenDraft {
             },
             piece_counts,
             guard_counts,
+            name_lists,
         })
     }
 
@@ -158,6 +155,7 @@ impl OpenDraft {
             return Err(Refusal::NotHere);
         }
         self.draft.names.push(name)?;
+        list_name(name, &mut self.name_lists)?;
         self.draft.guards.push((place, rows))?;
         count_one(&mut self.guard_counts, place);
         Ok(())
@@ -195,7 +193,7 @@ impl OpenDraft {
         ensures step { IsRead result (plain.step (plain_open self.old) (guard (Some name) (plain_placed (place, rows)))) (λ _. plain_open self.new) }
         ensures counted { OnOk result (IsCounted plant.now self.new) }
     {
-        if is_among(&name, &self.draft.names) {
+        if is_listed(&name, &self.name_lists) {
             return Err(Refusal::NotHere);
         }
         self.push_guard(plant, name, place, rows)

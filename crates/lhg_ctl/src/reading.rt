@@ -44,6 +44,7 @@ pub fn read_controller(alloc: Global, lines: &mut Lines, plant: &Plant) -> Resul
         draft,
         piece_counts: _,
         guard_counts: _,
+        name_lists: _,
     } = draft;
     Ok(draft)
 }

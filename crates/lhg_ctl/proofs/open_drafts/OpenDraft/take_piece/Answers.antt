@@ -8,4 +8,5 @@ returns-clause-counted c =
     record {
       pieces = counted_more (length c.args.plant.now.locs.items) old.piece_counts.items c.count_one.new.counts.items old.draft.pieces.items c.push.new.self.items (c.args.place, c.args.rows) c.requires.place c.requires.counted.pieces c.count_one.ensures c.in_ok-push.ensures.items;
       guards = c.requires.counted.guards;
+      names = c.requires.counted.names;
     }
