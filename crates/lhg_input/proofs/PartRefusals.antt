@@ -1,10 +1,10 @@
 -- A part is refused: the first line that cannot stand in it is the first that cannot stand in the whole.
-use Rattle.std.proofs.Common.{◌≡◌, ◌≤◌, ◌<◌, ◌+◌, ◌-◌, inl, inr, ℕ, List, [], ◌∷◌, ◌++◌, length, take, drop, refl, sym, ap, ◌∙◌, subst, arith, append_assoc, append-nil, length-append, take_at}
+use Rattle.std.proofs.Common.{◌≡◌, ◌+◌, ◌-◌, inl, inr, ℕ, List, [], ◌∷◌, ◌++◌, length, take, drop, refl, sym, ap, ◌∙◌, subst, arith, append_assoc, append-nil, length-append, take_at}
 use Rattle.std.specs.Prelude.{slice_get}
 use Rattle.std.proofs.Math.Seq.{take-append-add}
 use Rattle.std.proofs.lemmas.List.{take-append-le, take-append-drop}
 use Rattle.std.proofs.lemmas.Bool.{cases_lt}
-use Rattle.lhg_lex.specs.FirstBad.{CanStand, IsFirstBad}
+use Rattle.lhg_lex.specs.FirstBad.{CanStand}
 use Rattle.lhg_lex.specs.Lines.{lines_of}
 use Rattle.lhg_lex.specs.Reading.{Reading, left_of}
 use Rattle.lhg_lex.specs.declared.stops.ReadStop.{ReadStop}
@@ -15,7 +15,7 @@ use Rattle.lhg_read.specs.TokenText.{HasCause, IsFirstFault, fault_at}
 use Rattle.lhg_input.specs.Then.{IsThen, IsSome}
 use Rattle.lhg_input.proofs.Parts.{IsPart, IsLaterPart, behind_first}
 use Rattle.lhg_input.proofs.Readings.{start, Stands}
-use Rattle.lhg_input.proofs.Splits.{IsLonger, split, get_behind}
+use Rattle.lhg_input.proofs.Splits.{split, get_behind}
 
 -- the later ones of blank lines are blank
 blank_rest : (xs ys : List (List ℕ)) → AreBlank (xs ++ ys) → AreBlank ys

@@ -1,8 +1,8 @@
 -- Parts of an input, one behind the other: what is said of each part holds of the whole.
-use Rattle.std.proofs.Common.{◌≡◌, ◌⊎◌, inl, inr, ℕ, List, [], ◌∷◌, ◌++◌, refl, sym, ap, ◌∙◌, subst, append_assoc}
+use Rattle.std.proofs.Common.{◌≡◌, inl, inr, ℕ, List, ◌++◌, sym, ap, ◌∙◌, subst, append_assoc}
 use Rattle.lhg_read.specs.Rest.{AreBlank}
 use Rattle.lhg_input.specs.Then.{IsThen}
-use Rattle.lhg_input.proofs.Splits.{IsLonger, split}
+use Rattle.lhg_input.proofs.Splits.{split}
 
 -- blank lines may follow a text of the grammar; where it goes on as one only blank lines do; and it has one value at most
 pub record IsPart {V : Type 0} (Is : List (List ℕ) → V → Type 0) : Type 0 where

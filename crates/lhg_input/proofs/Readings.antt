@@ -7,10 +7,9 @@ use Rattle.lhg_lex.specs.Lines.{lines_of}
 use Rattle.lhg_lex.specs.Reading.{Reading, left_of, IsAtEnd}
 use Rattle.lhg_lex.specs.declared.stops.ReadStop.{ReadStop}
 use Rattle.lhg_lex.specs.declared.stops.ReadStop.TheVariants.{Bad, Memory}
-use Rattle.lhg_lex.specs.declared.stops.What.{What}
 use Rattle.lhg_read.specs.FaultLaws.{get_at}
 use Rattle.lhg_read.specs.Rest.{AreBlank, HasSurplus}
-use Rattle.lhg_read.specs.TokenText.{IsTextBy, ReadsText, HasCause, IsFirstFault, fault_at}
+use Rattle.lhg_read.specs.TokenText.{IsTextBy, ReadsText, HasCause, fault_at}
 use Rattle.lhg_input.specs.BadLine.{IsBadAt, HasBadLine}
 use Rattle.lhg_input.specs.Then.{IsThen, IsSome}
 use Rattle.lhg_input.proofs.Parts.{IsPart}

@@ -1,9 +1,9 @@
 -- Plants, controllers, logs and states are parts of an input.
-use Rattle.std.proofs.Common.{◌≡◌, ℕ, List, [], ◌∷◌, ◌++◌, map, refl, sym, ap, ◌∙◌, subst, true, Bool, Option, Some, None, Result, Ok, Err, append-nil}
+use Rattle.std.proofs.Common.{◌≡◌, ℕ, List, [], ◌∷◌, ◌++◌, map, refl, sym, ap, ◌∙◌, subst, true, Option, Some, None, Result, Ok, Err, append-nil}
 use Rattle.std.specs.Option.{option_and_then}
 use Rattle.std.proofs.lemmas.Option.{none-some, same_Some}
 use Rattle.lhg_lex.specs.FirstBad.{CanStand}
-use Rattle.lhg_lex.specs.LineTokens.{Spot, Fault, tokens_of, IsBlankLine}
+use Rattle.lhg_lex.specs.LineTokens.{Spot, Fault, tokens_of}
 use Rattle.lhg_plant.specs.Plant.{PlainPlant}
 use Rattle.lhg_plant.specs.Proper.{IsProper}
 use Rattle.lhg_plant.specs.Run.{PlainEntry}

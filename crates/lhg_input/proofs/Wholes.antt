@@ -1,5 +1,5 @@
 -- The inputs of the commands: what is said of a whole input when its parts are read, or one is refused.
-use Rattle.std.proofs.Common.{◌≡◌, ℕ, List, []}
+use Rattle.std.proofs.Common.{ℕ, List, []}
 use Rattle.lhg_lex.specs.FirstBad.{CanStand}
 use Rattle.lhg_lex.specs.Lines.{lines_of}
 use Rattle.lhg_lex.specs.Reading.{Reading, IsAtEnd}
