@@ -1,0 +1,6 @@
+pub mod PartRefusals
+pub mod Parts
+pub mod Readings
+pub mod Splits
+pub mod TextParts
+pub mod Wholes

@@ -1,0 +1,11 @@
+use Rattle.lhg_input.proofs.Wholes.{controllers_one, logs_one, states_one}
+use Rattle.lhg_input.proofs.laws.law_inputs.Goals as goal
+
+pub returns-clause-controllers : goal.returns-clause-controllers
+returns-clause-controllers c = controllers_one
+
+pub returns-clause-logs : goal.returns-clause-logs
+returns-clause-logs c = logs_one
+
+pub returns-clause-states : goal.returns-clause-states
+returns-clause-states c = states_one

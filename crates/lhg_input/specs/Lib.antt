@@ -1,0 +1,4 @@
+pub mod BadLine
+pub mod InputLaws
+pub mod Inputs
+pub mod Then

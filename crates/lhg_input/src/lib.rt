@@ -1,0 +1,15 @@
+//! Whole inputs of the commands: a plant, and what follows it.
+#![tactic(auto)]
+
+mod controllers;
+pub mod laws;
+mod logs;
+mod plants;
+mod states;
+#[cfg(test)]
+mod tests;
+
+pub use controllers::read_controller_input;
+pub use logs::{LogInput, read_log_input};
+pub use plants::read_plant_input;
+pub use states::read_state_input;
