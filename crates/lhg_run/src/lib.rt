@@ -15,6 +15,5 @@ mod stops;
 mod ways;
 
 pub use entries::Entry;
-pub use picks::first_result;
 pub use runs::run;
 pub use stops::RunStop;
