@@ -19,8 +19,9 @@ use Rattle.lhg_run.specs.Numbers.{IsWideEntry, IsLongEntry}
 use Rattle.lhg_run.specs.Seen.{running_place, IsStanding}
 use Rattle.lhg_run.specs.Stop.{IsStop}
 use Rattle.lhg_run.specs.StopFor.{stop_for}
-use Rattle.lhg_run.specs.Views.{plain_entry, plain_entries}
-use Rattle.lhg_run.specs.declared.entries.Entry.{Entry}
+use Rattle.lhg_ctl.specs.LogViews.{plain_entry}
+use Rattle.lhg_run.specs.Views.{plain_entries}
+use Rattle.lhg_ctl.specs.declared.entries.Entry.{Entry}
 use Rattle.lhg_run.specs.declared.running.Running.{Running}
 use Rattle.lhg_run.specs.declared.stops.RunStop.{RunStop}
 use Rattle.lhg_run.proofs.RunSteps.{run-illegal, turn}

@@ -3,14 +3,8 @@ use Rattle.std.specs.Prelude.{◌≡◌, ℕ, List, length, map, Option}
 use Rattle.lhg_plant.specs.declared.states.State.{State}
 use Rattle.lhg_plant.specs.Run.{PlainEntry, flow_entry, env_entry, land_entry, RunPlace}
 use Rattle.lhg_plant.specs.Views.{plain_state}
-use Rattle.lhg_run.specs.declared.entries.Entry.{Entry}
-use Rattle.lhg_run.specs.declared.entries.Entry.TheVariants.{Flow, Env, Land}
-
--- an entry as plain data
-abbrev pub plain_entry : Entry → PlainEntry
-plain_entry (Flow time to) = flow_entry time to
-plain_entry (Env switch to) = env_entry switch to
-plain_entry (Land to) = land_entry to
+use Rattle.lhg_ctl.specs.LogViews.{plain_entry}
+use Rattle.lhg_ctl.specs.declared.entries.Entry.{Entry}
 
 -- entries as plain data
 abbrev pub plain_entries : List Entry → List PlainEntry

@@ -3,7 +3,6 @@
 
 mod copies;
 mod doing;
-mod entries;
 mod flows;
 mod moves;
 mod picks;
@@ -14,7 +13,5 @@ mod sights;
 mod stops;
 mod ways;
 
-pub use entries::Entry;
-pub use picks::first_result;
 pub use runs::run;
 pub use stops::RunStop;

@@ -13,7 +13,7 @@ use std::alloc::Global;
 
 /// The sample of the results, from the point by a switch with these jump rows, in the first of the pieces that holds one.
 /// It halts for `Wide` and `Rows` only where the calculus of this call sets the mark, and for `Memory`.
-pub fn first_result(
+pub(crate) fn first_result(
     alloc: Global,
     vars: usize,
     point: &Point<Frac>,

@@ -15,16 +15,16 @@ ghost use Rattle.lhg_run.specs.Seen.{running_place, IsTaken, IsStep, IsBegun, Is
 ghost use Rattle.lhg_run.specs.Stop.{IsStop};
 ghost use Rattle.lhg_run.specs.StopFor.{IsRunHalt, stop_for};
 ghost use Rattle.lhg_run.specs.declared.stops.RunStop.TheVariants.{Illegal};
-ghost use Rattle.lhg_run.specs.Views.{plain_entry, plain_entries, IsOver};
+ghost use Rattle.lhg_ctl.specs.LogViews.{plain_entry};
+ghost use Rattle.lhg_run.specs.Views.{plain_entries, IsOver};
 
 use crate::copies::copy_state;
 use crate::doing::Done;
-use crate::entries::Entry;
 use crate::flows::flow;
 use crate::moves::{env, land};
 use crate::running::Running;
 use crate::stops::RunStop;
-use lhg_ctl::Controller;
+use lhg_ctl::{Controller, Entry};
 use lhg_num::Halt;
 use lhg_plant::{Plant, State};
 use lhg_play::{Step, Trace};

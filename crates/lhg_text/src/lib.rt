@@ -12,6 +12,8 @@ mod report_tests;
 mod reports;
 #[cfg(test)]
 mod tests;
+#[cfg(test)]
+mod trace_tests;
 mod traces;
 mod words;
 

@@ -6,7 +6,8 @@ use Rattle.lhg_plant.specs.Views.{plain_plant, plain_state}
 use Rattle.lhg_ctl.specs.Views.{plain_controller}
 use Rattle.lhg_run.specs.Seen.{running_place, IsStep}
 use Rattle.lhg_run.specs.Stop.{IsStop}
-use Rattle.lhg_run.specs.Views.{plain_entry, plain_entries, IsOver}
+use Rattle.lhg_ctl.specs.LogViews.{plain_entry}
+use Rattle.lhg_run.specs.Views.{plain_entries, IsOver}
 use Rattle.lhg_run.proofs.RunCall.{err_on, entry-there, entry-at, take-entry, kept-standing, illegal-at, halted-at}
 use Rattle.lhg_run.proofs.RunSteps.{IsRunning, running-start, running-more, running-end}
 use Rattle.lhg_run.proofs.runs.run.Goals as goal

@@ -4,7 +4,8 @@ use Rattle.lhg_plant.specs.Views.{plain_plant, plain_state}
 use Rattle.lhg_ctl.specs.Views.{plain_controller}
 use Rattle.lhg_run.specs.Numbers.{IsWideEntry, IsLongEntry}
 use Rattle.lhg_run.specs.Seen.{IsTaken, running_place}
-use Rattle.lhg_run.specs.Views.{plain_entry, plain_place}
+use Rattle.lhg_ctl.specs.LogViews.{plain_entry}
+use Rattle.lhg_run.specs.Views.{plain_place}
 use Rattle.lhg_run.proofs.Answering.{answered-as}
 use Rattle.lhg_run.proofs.RunCall.{taken-at}
 use Rattle.lhg_run.proofs.runs.taken.Goals as goal
