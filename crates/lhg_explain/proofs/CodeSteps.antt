@@ -1,5 +1,5 @@
 -- What is known of values that the code holds.
-use Rattle.std.proofs.Common.{◌≡◌, ◌<◌, ◌≤◌, ◌-◌, ℕ, zero, suc, true, false, cond, List, [], ◌∷◌, ◌++◌, map, take, length, get_or, slice_get, Option, Some, None, refl, ap, ◌∙◌, subst, arith}
+use Rattle.std.proofs.Common.{◌≡◌, ◌<◌, ◌≤◌, ◌-◌, ℕ, zero, suc, cond, List, [], ◌∷◌, ◌++◌, map, take, length, get_or, slice_get, Some, refl, ap, ◌∙◌, subst, arith}
 use Rattle.lhg_math.specs.Number.{Number, lt, nought, neg}
 use Rattle.lhg_math.specs.Signs.{size_of, is_nought}
 use Rattle.lhg_math.specs.SignLaws.{is_nought-neg}

@@ -1,13 +1,12 @@
 -- The explanation of a state that a record holds is an escape: by induction over the numbers of the records.
-use Rattle.std.proofs.Common.{◌≡◌, ◌+◌, ◌-◌, ◌<◌, ◌≤◌, ℕ, zero, suc, true, List, [], ◌∷◌, length, get_or, slice_get, Option, Some, None, IsSomeAnd, refl, sym, ap, ◌∙◌, inl, inr, subst, arith}
+use Rattle.std.proofs.Common.{◌≡◌, ◌≤◌, ℕ, zero, suc, true, List, [], ◌∷◌, length, slice_get, Option, Some, None, IsSomeAnd, refl, sym, ap, ◌∙◌, inl, inr, subst, arith}
 use Rattle.lhg_math.specs.Number.{Number, lt, unit}
 use Rattle.lhg_math.specs.NumberOrder.{lt_antisymm}
 use Rattle.lhg_math.specs.Places.{IsPlace}
 use Rattle.lhg_math.specs.Tests.{by_bool}
-use Rattle.lhg_num.specs.Marked.{Marked, and_then}
+use Rattle.lhg_num.specs.Marked.{and_then}
 use Rattle.lhg_row.specs.Row.{PlainPoint}
-use Rattle.lhg_row.specs.Piece.{PlainPiece, InPiece}
-use Rattle.lhg_row.specs.Width.{AllWide}
+use Rattle.lhg_row.specs.Piece.{PlainPiece}
 use Rattle.lhg_motion.specs.Segment.{along}
 use Rattle.lhg_motion.specs.SegmentLemmas.{along_end}
 use Rattle.lhg_motion.specs.Flow.{IsFlow}
@@ -15,8 +14,7 @@ use Rattle.lhg_motion.specs.Play.{PlainMove, IsPlay, last_point, EachEarlier}
 use Rattle.lhg_motion.specs.PlayLemmas.{earlier_none, earlier_one, earlier_more}
 use Rattle.lhg_plant.specs.Plant.{PlainPlant, PlainLocation, PlainSwitch}
 use Rattle.lhg_plant.specs.Proper.{IsProper}
-use Rattle.lhg_plant.specs.State.{PlainState, States, IsState, moved_to}
-use Rattle.lhg_plant.specs.Legal.{LegalFlow, IsPlayFrom}
+use Rattle.lhg_plant.specs.State.{PlainState, States, moved_to}
 use Rattle.lhg_plant.specs.OutBack.{Back}
 use Rattle.lhg_plant.specs.Escape.{MayPass, IsEscape}
 use Rattle.lhg_plant.specs.Round.{InRound}

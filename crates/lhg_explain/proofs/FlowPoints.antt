@@ -1,5 +1,5 @@
 -- The flow that is found from a point is one, where there is one from it.
-use Rattle.std.proofs.Common.{◌≡◌, ◌+◌, ℕ, suc, List, [], ◌∷◌, ◌++◌, take, length, get_or, sym, ap, ◌∙◌, subst, arith, append_assoc}
+use Rattle.std.proofs.Common.{◌≡◌, ◌+◌, ℕ, [], ◌∷◌, ◌++◌, take, length, get_or, sym, ap, ◌∙◌, subst, arith, append_assoc}
 use Rattle.std.proofs.lemmas.List.{length-append, length-take-le}
 use Rattle.lhg_math.specs.Number.{nought}
 use Rattle.lhg_num.specs.FracArithmetic.{frac_arithmetic}

@@ -1,8 +1,8 @@
 -- What do the rows of a straight flow say of a flow by its end and its time?
-use Rattle.std.proofs.Common.{◌≡◌, ◌↔◌, ◌+◌, ℕ, Bool, true, List, [], ◌∷◌, ◌++◌, map, length, refl, sym, ap, ◌∙◌}
+use Rattle.std.proofs.Common.{◌≡◌, ◌+◌, ℕ, Bool, true, [], ◌∷◌, ◌++◌, map, length, refl, sym, ap, ◌∙◌}
 use Rattle.lhg_math.specs.Number.{Number, lt, nought, half}
 use Rattle.lhg_math.specs.Places.{half_inner}
-use Rattle.lhg_math.specs.Tests.{Every, all_of, every_from_all, all_from_every}
+use Rattle.lhg_math.specs.Tests.{Every, all_of, every_from_all}
 use Rattle.lhg_num.specs.Arithmetic.{Arithmetic}
 use Rattle.lhg_num.specs.Marked.{each}
 use Rattle.lhg_row.specs.Row.{PlainRow, PlainPoint, holds_at, relaxed}

@@ -1,8 +1,7 @@
 -- What is known of the record with a number, where it holds a state?
-use Rattle.std.proofs.Common.{◌≡◌, ◌<◌, ◌≤◌, ◌-◌, ℕ, zero, suc, List, [], ◌∷◌, length, get_or, slice_get, Option, Some, None, refl, sym, ap, ◌∙◌, subst, arith}
+use Rattle.std.proofs.Common.{◌≡◌, ◌<◌, ◌-◌, ℕ, zero, suc, List, [], ◌∷◌, length, get_or, slice_get, Option, Some, None, refl, sym, ap, ◌∙◌, subst, arith}
 use Rattle.std.specs.Prelude.{Contains}
 use Rattle.std.proofs.lemmas.Option.{get_or_from_slice_get}
-use Rattle.lhg_num.specs.Marked.{Marked}
 use Rattle.lhg_row.specs.Row.{PlainPoint}
 use Rattle.lhg_row.specs.Piece.{PlainPiece}
 use Rattle.lhg_motion.specs.Play.{PlainMove}
@@ -13,7 +12,7 @@ use Rattle.lhg_plant.specs.Round.{InRound}
 use Rattle.lhg_plant.specs.Loss.{PlainCause, by_env, by_leave, by_flow, PlainLoss, InPieceAt, InLoss, IsEarlierLoss}
 use Rattle.lhg_plant.specs.Sound.{IsInside, HasFlowThrough, Shows, ShowsFlow, IsSoundBetween}
 use Rattle.lhg_loss.proofs.Numbers.{all_contained}
-use Rattle.lhg_explain.specs.Explanation.{PlainNext, flows_on, flows_out, switches, no_loss, loss_at, flow_by, switch_by, next_by}
+use Rattle.lhg_explain.specs.Explanation.{flows_on, no_loss, loss_at, flow_by, switch_by, next_by}
 use Rattle.lhg_explain.specs.Explained.{IsWideCause, IsWideLoss, AreRecords, IsHeldBy, state_in}
 use Rattle.lhg_explain.proofs.RecordSteps.{found-ends}
 

@@ -1,8 +1,7 @@
 -- What is known where the code takes a step from a state of a record?
-use Rattle.std.proofs.Common.{◌≡◌, ◌-◌, ◌<◌, ◌≤◌, ℕ, zero, suc, List, [], ◌∷◌, length, get_or, slice_get, Option, Some, None, IsSomeAnd, refl, sym, ap, ◌∙◌, subst, arith}
+use Rattle.std.proofs.Common.{◌≡◌, ◌-◌, ◌<◌, ◌≤◌, ℕ, zero, suc, List, [], ◌∷◌, length, get_or, slice_get, Some, IsSomeAnd, sym, ap, ◌∙◌, subst, arith}
 use Rattle.std.proofs.lemmas.List.{length-map}
 use Rattle.std.proofs.lemmas.Option.{get_or_from_slice_get}
-use Rattle.lhg_num.specs.Marked.{Marked}
 use Rattle.lhg_row.specs.Row.{PlainPoint}
 use Rattle.lhg_row.specs.Piece.{PlainPiece}
 use Rattle.lhg_row.specs.System.{PlainSystem}
@@ -21,7 +20,7 @@ use Rattle.lhg_loss.specs.declared.losses.Cause.{Cause}
 use Rattle.lhg_loss.specs.declared.losses.Cause.TheVariants.{Env, Leave, Flow}
 use Rattle.lhg_loss.specs.declared.losses.Loss.{Loss}
 use Rattle.lhg_loss.specs.Views.{plain_loss, plain_losses, CauseVars, LossVars, AllHaveVars}
-use Rattle.lhg_explain.specs.Explanation.{PlainNext, no_loss, loss_at, flow_rows, next_by}
+use Rattle.lhg_explain.specs.Explanation.{no_loss, loss_at, flow_rows, next_by}
 use Rattle.lhg_explain.specs.Explained.{IsWideCause, IsWideLoss, AreRecords, IsHeldBy, state_in}
 use Rattle.lhg_explain.specs.Results.{HasResult, HasResultBy}
 use Rattle.lhg_explain.proofs.HeldRecords.{IsRecordAt, record_at, wide_at, earlier_at, earlier-flow}

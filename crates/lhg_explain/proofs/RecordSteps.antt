@@ -1,30 +1,28 @@
 -- The step that is found from a state of a sound record is the move that the record names.
-use Rattle.std.proofs.Common.{◌≡◌, ◌+◌, ◌-◌, ◌<◌, ℕ, zero, suc, true, List, [], ◌∷◌, ◌++◌, length, get_or, slice_get, Option, Some, None, IsSomeAnd, refl, sym, ap, ◌∙◌, inl, inr, subst, arith}
-use Rattle.std.proofs.lemmas.Option.{get_or_from_slice_get}
+use Rattle.std.proofs.Common.{◌≡◌, ◌+◌, ℕ, zero, suc, true, List, [], ◌∷◌, length, slice_get, Option, Some, None, IsSomeAnd, refl, sym, ap, ◌∙◌, inl, inr, subst}
 use Rattle.lhg_math.specs.Number.{Number, lt, nought, unit}
 use Rattle.lhg_math.specs.NumberOrder.{lt_antisymm, nought_unit}
 use Rattle.lhg_math.specs.Places.{IsPlace, IsInner, start_place}
 use Rattle.lhg_math.specs.Tests.{AllOf, by_bool}
-use Rattle.lhg_num.specs.FracArithmetic.{frac_arithmetic}
 use Rattle.lhg_row.specs.Row.{PlainPoint}
 use Rattle.lhg_row.specs.Piece.{PlainPiece, InPiece}
 use Rattle.lhg_row.specs.Width.{AllWide}
 use Rattle.lhg_motion.specs.Segment.{along}
 use Rattle.lhg_motion.specs.SegmentLemmas.{along_start}
 use Rattle.lhg_motion.specs.Flow.{IsFlow}
-use Rattle.lhg_motion.specs.Play.{PlainMove, IsPlay}
+use Rattle.lhg_motion.specs.Play.{PlainMove}
 use Rattle.lhg_motion.specs.PlayLemmas.{one_earlier}
 use Rattle.lhg_motion.specs.Crossing.{HasCrossing}
 use Rattle.lhg_plant.specs.Plant.{PlainPlant, PlainLocation, PlainSwitch}
 use Rattle.lhg_plant.specs.Proper.{IsLocation, IsSwitch, IsProper}
 use Rattle.lhg_plant.specs.State.{PlainState, States, IsState, moved_to}
-use Rattle.lhg_plant.specs.Legal.{LegalFlow, LegalSwitch, IsPlayFrom}
+use Rattle.lhg_plant.specs.Legal.{LegalFlow, LegalSwitch}
 use Rattle.lhg_plant.specs.OutBack.{Back}
 use Rattle.lhg_plant.specs.Escape.{MayPass}
 use Rattle.lhg_plant.specs.Loss.{PlainCause, by_env, by_leave, by_flow, PlainLoss, InPieceAt, InLoss, HasMove, HasFlowTo}
 use Rattle.lhg_plant.specs.Sound.{IsInside, HasFlowThrough, AllMayPass, ShowsEnv}
 use Rattle.lhg_plant.specs.Run.{state_along}
-use Rattle.lhg_plant.proofs.Options.{some_out, some_there, there_some}
+use Rattle.lhg_plant.proofs.Options.{some_out, some_there}
 use Rattle.lhg_plant.proofs.RunInside.{flow_length, along_state}
 use Rattle.lhg_explain.specs.Explanation.{flow_rows, flow_by, result_from}
 use Rattle.lhg_explain.proofs.FlowRows.{IsCrossingTo}

@@ -1,14 +1,14 @@
 -- The sample of the rows that have a variable is a point of all rows, where these have a point.
-use Rattle.std.proofs.Common.{◌≡◌, ◌+◌, ℕ, zero, suc, Bool, true, false, List, [], ◌∷◌, ◌++◌, take, length, get_or, filter, Option, Some, None, refl, sym, ap, ◌∙◌, arith}
+use Rattle.std.proofs.Common.{◌≡◌, ◌+◌, ℕ, zero, suc, true, List, [], ◌∷◌, ◌++◌, take, length, get_or, filter, Option, Some, None, refl, sym, ap, ◌∙◌, arith}
 use Rattle.lhg_math.specs.Number.{Number, nought}
 use Rattle.lhg_math.specs.Tests.{by_bool}
 use Rattle.lhg_num.specs.FracArithmetic.{frac_arithmetic, frac_is_lawful}
 use Rattle.lhg_row.specs.Row.{PlainRow, PlainPoint, holds_at}
-use Rattle.lhg_row.specs.Piece.{PlainPiece, InPiece, in_piece}
+use Rattle.lhg_row.specs.Piece.{PlainPiece, InPiece}
 use Rattle.lhg_row.specs.PieceLemmas.{in_piece_is}
 use Rattle.lhg_row.specs.Constant.{is_constant, varies}
 use Rattle.lhg_row.specs.ConstantLaws.{constant-holds}
-use Rattle.lhg_row.specs.Members.{all-filter, all_split, all-append}
+use Rattle.lhg_row.specs.Members.{all-filter, all_split}
 use Rattle.lhg_row.specs.MeetLaws.{in_piece-both}
 use Rattle.lhg_row.specs.Width.{AllWide}
 use Rattle.lhg_row.specs.WidthLaws.{append-wide}

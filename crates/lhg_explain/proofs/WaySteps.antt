@@ -1,14 +1,13 @@
 -- From step to step of the way of an explanation.
-use Rattle.std.proofs.Common.{◌≡◌, ◌+◌, ◌-◌, ◌<◌, ◌≤◌, ℕ, zero, suc, List, [], ◌∷◌, ◌++◌, map, Option, Some, None, refl, sym, ap, ◌∙◌, subst, arith, append_assoc, append-nil}
-use Rattle.std.proofs.lemmas.List.{map-append}
-use Rattle.lhg_num.specs.Marked.{Marked, done, and_then, valued, IsRest}
+use Rattle.std.proofs.Common.{◌≡◌, ◌+◌, ◌-◌, ◌<◌, ◌≤◌, ℕ, suc, List, [], ◌∷◌, ◌++◌, Option, Some, None, refl, sym, ap, ◌∙◌, subst, arith, append_assoc, append-nil}
+use Rattle.lhg_num.specs.Marked.{Marked, and_then, valued, IsRest}
 use Rattle.lhg_num.specs.MarkedLaws.{IsPart, rest_self, rest_rest, rest_part, and_then-rest, and_then-part}
 use Rattle.lhg_row.specs.Row.{PlainPoint}
 use Rattle.lhg_motion.specs.Play.{PlainMove, last_point}
 use Rattle.lhg_plant.specs.Plant.{PlainPlant}
 use Rattle.lhg_plant.specs.State.{PlainState}
 use Rattle.lhg_plant.specs.Loss.{PlainLoss}
-use Rattle.lhg_explain.specs.Explanation.{PlainNext, flows_on, flows_out, switches, PlainWay, PlainEscape, onward, way_by, way_within, loss_at, next_by, explanation}
+use Rattle.lhg_explain.specs.Explanation.{PlainNext, flows_on, flows_out, switches, PlainWay, PlainEscape, way_by, way_within, loss_at, next_by, explanation}
 use Rattle.lhg_explain.specs.Explained.{IsHeldBy, state_in}
 use Rattle.lhg_explain.proofs.HeldRecords.{IsOnward}
 

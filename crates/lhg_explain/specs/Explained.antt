@@ -1,5 +1,5 @@
 -- When is a play, with a last switch or none, an explanation of why a state was lost?
-use Rattle.std.specs.Prelude.{◌≡◌, ℕ, suc, List, length, slice_get, Option, Some, None, Contains}
+use Rattle.std.specs.Prelude.{◌≡◌, ℕ, suc, List, length, Option, Some, None, Contains}
 use Rattle.lhg_math.specs.Tests.{AllOf}
 use Rattle.lhg_row.specs.Row.{PlainPoint}
 use Rattle.lhg_row.specs.Width.{AllWide}

@@ -11,8 +11,6 @@ pub mod laws;
 mod moves;
 mod samples;
 mod telling;
-#[cfg(test)]
-mod tests;
 
 pub use explaining::explain;
 pub use lhg_play::Escape;

@@ -7,6 +7,7 @@ pub mod RoundSteps
 pub mod SafeLines
 pub mod SeekSteps
 pub mod Settling
+pub mod SoughtAnswers
 pub mod StageSteps
 pub mod StopSteps
 pub mod TurnSteps

@@ -1,6 +1,7 @@
 pub mod Naming
 pub mod Outcomes
 pub mod RoundViews
+pub mod SeekLaws
 pub mod SeekWork
 pub mod Seeking
 pub mod Stages

@@ -2,7 +2,6 @@
 use Rattle.std.specs.Prelude.{◌≡◌, ◌<◌, ℕ, List, [], ◌∷◌, ◌++◌, codes, decimal, length, map, slice_get, Option, Some, None}
 use Rattle.std.specs.List.{flat_map}
 use Rattle.std.specs.Option.{option_map}
-use Rattle.lhg_math.specs.Tests.{AllOf}
 use Rattle.lhg_motion.specs.Play.{PlainMove}
 use Rattle.lhg_plant.specs.declared.states.State.{State}
 use Rattle.lhg_plant.specs.Plant.{PlainPlant}

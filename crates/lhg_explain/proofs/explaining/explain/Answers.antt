@@ -1,14 +1,13 @@
-use Rattle.std.proofs.Common.{◌≡◌, ◌-◌, ◌<◌, ◌≤◌, ℕ, length, get_or, sym, ap, ◌∙◌, subst, arith}
+use Rattle.std.proofs.Common.{◌≡◌, ◌-◌, ℕ, length, get_or, sym, ap, ◌∙◌, subst, arith}
 use Rattle.lhg_num.proofs.Halted.{part_halts_rows}
 use Rattle.lhg_plant.specs.Loss.{PlainLoss, InLoss}
-use Rattle.lhg_plant.specs.State.{PlainState}
 use Rattle.lhg_plant.specs.Views.{plain_plant, plain_state}
 use Rattle.lhg_loss.specs.declared.losses.Loss.{Loss}
 use Rattle.lhg_loss.specs.Views.{plain_losses}
-use Rattle.lhg_explain.specs.Explanation.{PlainWay, PlainEscape, loss_at, way_within, explanation}
+use Rattle.lhg_explain.specs.Explanation.{loss_at, way_within, explanation}
 use Rattle.lhg_explain.specs.Explained.{AreRecords, IsExplained}
 use Rattle.lhg_explain.specs.Views.{plain_way, plain_escape}
-use Rattle.lhg_explain.proofs.HeldRecords.{IsRecordAt, record_at}
+use Rattle.lhg_explain.proofs.HeldRecords.{record_at}
 use Rattle.lhg_explain.proofs.NextSteps.{place_below, loss_plain}
 use Rattle.lhg_explain.proofs.WaySteps.{escape_of, explanation-part, explanation-value}
 use Rattle.lhg_explain.proofs.explaining.explain.Goals as goal

@@ -1,9 +1,8 @@
-use Rattle.std.proofs.Common.{◌≡◌, ◌-◌, ◌<◌, ◌≤◌, length, slice_get, sym, ap, ◌∙◌, subst, arith}
+use Rattle.std.proofs.Common.{◌-◌, ◌<◌, length, slice_get, sym, ap, ◌∙◌, subst, arith}
 use Rattle.std.proofs.lemmas.List.{length-map}
 use Rattle.lhg_num.specs.Marked.{Marked}
 use Rattle.lhg_num.specs.MarkedLaws.{IsPart, part_self}
 use Rattle.lhg_num.proofs.Halted.{part_halts_rows}
-use Rattle.lhg_row.specs.Piece.{PlainPiece}
 use Rattle.lhg_motion.specs.Crossing.{HasCrossing}
 use Rattle.lhg_motion.specs.Play.{PlainMove}
 use Rattle.lhg_plant.specs.Loss.{PlainLoss, by_env, by_leave, by_flow}

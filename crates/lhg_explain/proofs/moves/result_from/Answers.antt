@@ -4,7 +4,7 @@ use Rattle.lhg_math.specs.Number.{Number}
 use Rattle.lhg_row.specs.Piece.{PlainPiece}
 use Rattle.lhg_row.specs.Width.{AllWide}
 use Rattle.lhg_row.specs.HasValue.{HasPoint}
-use Rattle.lhg_explain.proofs.SamplePoints.{results, results-wide, results-point}
+use Rattle.lhg_explain.proofs.SamplePoints.{results-wide, results-point}
 use Rattle.lhg_explain.proofs.moves.result_from.Goals as goal
 
 pub sample_of-requires-clause-wide : goal.sample_of-requires-clause-wide

@@ -1,4 +1,4 @@
-use Rattle.std.proofs.Common.{◌≡◌, ◌++◌, ◌∷◌, [], refl, sym, ap, ◌∙◌, codes}
+use Rattle.std.proofs.Common.{◌++◌, ◌∷◌, [], refl, sym, ap, ◌∙◌, codes}
 use Rattle.lhg_plant.specs.Views.{plain_plant, plain_state}
 use Rattle.lhg_row_text.specs.PointText.{state_text}
 use Rattle.lhg_row_text.specs.PrintedLine.{line, spaced}
