@@ -1,8 +1,8 @@
 -- What the first piece of lists says, and the lists that are formed for the places of a list.
-use Rattle.std.proofs.Common.{◌≡◌, ◌↔◌, ◌<◌, ◌≤◌, ◌+◌, ℕ, zero, suc, false, List, [], ◌∷◌, ◌++◌, length, get_or, slice_get, Option, Some, None, refl, sym, ap, ◌∙◌, inl, subst, arith}
+use Rattle.std.proofs.Common.{◌≡◌, ◌↔◌, ◌<◌, ◌+◌, ℕ, zero, suc, List, [], ◌∷◌, ◌++◌, length, get_or, slice_get, Option, Some, None, refl, sym, ap, ◌∙◌, inl, subst, arith}
 use Rattle.lhg_num.specs.FracArithmetic.{frac_arithmetic}
-use Rattle.lhg_num.specs.Marked.{Marked, and_then, valued, each, IsRest}
-use Rattle.lhg_num.specs.MarkedLaws.{IsPart, and_then-part, and_then-rest, part_part, rest_part}
+use Rattle.lhg_num.specs.Marked.{Marked, valued, each, IsRest}
+use Rattle.lhg_num.specs.MarkedLaws.{IsPart, and_then-part, and_then-rest, part_part}
 use Rattle.lhg_row.specs.Row.{PlainPoint}
 use Rattle.lhg_row.specs.Piece.{PlainPiece, InSome}
 use Rattle.lhg_row.specs.PieceFacts.{AllPolys}

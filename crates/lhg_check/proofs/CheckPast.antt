@@ -1,9 +1,9 @@
 -- The pieces of the third part are the states of the region with an escape past the guards.
-use Rattle.std.proofs.Common.{◌≡◌, ◌↔◌, ◌+◌, ℕ, zero, suc, Bool, true, cond, false, List, [], ◌∷◌, ◌++◌, length, get_or, slice_get, nat_eq, IsSomeAnd, Option, Some, None, refl, sym, ap, ◌∙◌, inl, inr, subst, append-nil}
+use Rattle.std.proofs.Common.{◌≡◌, ◌↔◌, ℕ, zero, suc, Bool, true, cond, false, List, [], ◌∷◌, ◌++◌, length, get_or, slice_get, nat_eq, IsSomeAnd, Option, Some, None, refl, sym, ap, ◌∙◌, inl, inr, subst, append-nil}
 use Rattle.std.proofs.lemmas.Bool.{eq-eqb, eqb-true}
 use Rattle.lhg_math.specs.Tests.{by_bool}
 use Rattle.lhg_num.specs.FracArithmetic.{frac_arithmetic, frac_is_lawful}
-use Rattle.lhg_num.specs.Marked.{done, and_then, valued}
+use Rattle.lhg_num.specs.Marked.{valued}
 use Rattle.lhg_num.specs.MarkedLaws.{IsPart, and_then-rest, part_part}
 use Rattle.lhg_row.specs.Row.{PlainPoint}
 use Rattle.lhg_row.specs.Piece.{PlainPiece, InPiece, InSome}

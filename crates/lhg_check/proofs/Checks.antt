@@ -1,5 +1,5 @@
 -- The check of a controller is exact.
-use Rattle.std.proofs.Common.{◌≡◌, ℕ, false, List, [], length, get_or, slice_get, IsSomeAnd, Option, Some, None, refl, subst, inl, inr}
+use Rattle.std.proofs.Common.{◌≡◌, ℕ, List, [], length, get_or, slice_get, IsSomeAnd, Option, Some, None, refl, subst, inl, inr}
 use Rattle.lhg_num.specs.Marked.{IsRest, and_then}
 use Rattle.lhg_num.specs.MarkedLaws.{IsPart, rest_rest, rest_part, and_then-rest, and_then-part}
 use Rattle.lhg_row.specs.Piece.{PlainPiece}
@@ -13,7 +13,7 @@ use Rattle.lhg_plant.specs.OutCalculus.{PlainOuts, out}
 use Rattle.lhg_plant.specs.SwitchFacts.{state_at}
 use Rattle.lhg_plant.proofs.Decided.{safe_decided}
 use Rattle.lhg_check.specs.Check.{PlainVerdict, valid, unsafe, bad_guard, escapes, unsafe_pieces, broken_guards, lost_pieces, sample_at, from_of, first_piece, verdict, check}
-use Rattle.lhg_check.specs.CheckFacts.{IsCheckable, HasReachedFor, AllSafe, AllGuardsHold, IsClosed, BreaksSafe, BreaksGuard, BreaksClosed, IsBadGuard, IsEscaping, IsVerdict}
+use Rattle.lhg_check.specs.CheckFacts.{IsCheckable, HasReachedFor, AllSafe, AllGuardsHold, IsClosed, BreaksSafe, BreaksGuard, IsBadGuard, IsEscaping, IsVerdict}
 use Rattle.lhg_check.specs.CheckLaws.{IsExactVerdict, CheckLaw, CheckedLaw}
 use Rattle.lhg_check.proofs.Marks.{part_unmarked}
 use Rattle.lhg_check.proofs.CheckLists.{IsFirstOf, first_is, first_sample, none_in}

@@ -4,8 +4,8 @@ use Rattle.std.specs.Global.{Vec}
 use Rattle.std.proofs.lemmas.List.{get_or-map}
 use Rattle.lhg_math.specs.Tests.{AllOf}
 use Rattle.lhg_num.specs.FracArithmetic.{frac_arithmetic}
-use Rattle.lhg_num.specs.Marked.{Marked, done, and_then, valued, IsRest}
-use Rattle.lhg_num.specs.MarkedLaws.{IsPart, and_then-part, and_then-rest, rest_rest, rest_self}
+use Rattle.lhg_num.specs.Marked.{Marked, done, valued, IsRest}
+use Rattle.lhg_num.specs.MarkedLaws.{IsPart, and_then-part, and_then-rest}
 use Rattle.lhg_row.specs.Piece.{PlainPiece}
 use Rattle.lhg_row.specs.PieceFacts.{IsPoly, AllPolys}
 use Rattle.lhg_motion.specs.Found.{PlainFound, pieces_of}

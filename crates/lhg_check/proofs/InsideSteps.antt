@@ -24,7 +24,7 @@ use Rattle.lhg_plant.proofs.InsideStates.{inside_from}
 use Rattle.lhg_plant.proofs.ListSteps.{all_pieces}
 use Rattle.lhg_plant.proofs.Options.{there_some}
 use Rattle.lhg_plant.proofs.InvariantPoints.{invariants-at, invariant-points}
-use Rattle.lhg_jump.specs.PlantLists.{AreListsOf, IsRegionOf, AreGuardsOf}
+use Rattle.lhg_jump.specs.PlantLists.{AreListsOf, IsRegionOf}
 use Rattle.lhg_ctl.specs.declared.controllers.Controller.{Controller}
 use Rattle.lhg_ctl.specs.Conditions.{IsControllerOf}
 use Rattle.lhg_ctl.specs.Views.{plain_controller}

@@ -1,11 +1,11 @@
 -- Steps of the loop that takes the guards of a location away, one after the other.
-use Rattle.std.proofs.Common.{◌≡◌, ◌+◌, ◌<◌, ◌≤◌, ℕ, true, false, List, [], ◌∷◌, ◌++◌, cond, nat_eq, length, drop, get_or, map, refl, sym, ap, ◌∙◌, inl, inr, subst}
+use Rattle.std.proofs.Common.{◌≡◌, ◌+◌, ◌<◌, ◌≤◌, ℕ, List, [], ◌∷◌, ◌++◌, cond, nat_eq, length, drop, get_or, map, refl, sym, ap, ◌∙◌, inl, inr, subst}
 use Rattle.std.specs.Global.{Vec}
 use Rattle.std.proofs.lemmas.Bool.{or_left, or_right, or_cases}
 use Rattle.std.proofs.lemmas.List.{drop_all}
 use Rattle.lhg_math.specs.Tests.{false_true}
 use Rattle.lhg_num.specs.FracArithmetic.{frac_arithmetic}
-use Rattle.lhg_num.specs.Marked.{Marked, and_then, walk, IsRest}
+use Rattle.lhg_num.specs.Marked.{Marked, walk, IsRest}
 use Rattle.lhg_num.specs.MarkedLaws.{IsPart, rest_self, rest_rest, rest_part, and_then-rest, walk-append}
 use Rattle.lhg_row.specs.Piece.{PlainPiece}
 use Rattle.lhg_row.specs.Lists.{minus_one, minus}

@@ -1,6 +1,5 @@
 -- In one location, the states of a region with an escape from it past any set are those of the hits and of what is found.
 use Rattle.std.proofs.Common.{◌≡◌, ◌↔◌, ℕ, List, [], ◌∷◌, ◌++◌, length, slice_get, get_or, Some, inl, inr}
-use Rattle.lhg_math.specs.Tests.{AllOf}
 use Rattle.lhg_row.specs.Row.{PlainPoint}
 use Rattle.lhg_row.specs.Piece.{PlainPiece, InPiece, InSome}
 use Rattle.lhg_row.specs.SomeLists.{in_left, in_right, in_either, some_map, in_some_of}

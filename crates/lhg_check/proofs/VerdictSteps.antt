@@ -1,5 +1,5 @@
 -- What the code knows after each part: the verdict that it gives is exact, and is what is left of the calculus.
-use Rattle.std.proofs.Common.{◌≡◌, ℕ, List, length, slice_get, Option, Some, None, refl, sym, subst}
+use Rattle.std.proofs.Common.{◌≡◌, ℕ, length, slice_get, Option, Some, None, refl, sym, subst}
 use Rattle.lhg_num.specs.Marked.{valued, IsRest}
 use Rattle.lhg_row.specs.Piece.{PlainPiece}
 use Rattle.lhg_plant.specs.Plant.{PlainPlant}

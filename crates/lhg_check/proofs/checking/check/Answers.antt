@@ -1,8 +1,8 @@
-use Rattle.std.proofs.Common.{◌≡◌, ◌<◌, ◌∷◌, ℕ, List, length, slice_get, Option, Some, None, refl, sym, ap, ◌∙◌, subst}
+use Rattle.std.proofs.Common.{◌≡◌, ℕ, length, slice_get, Option, Some, None, refl, sym, ap, ◌∙◌, subst}
 use Rattle.std.specs.Global.{Vec}
 use Rattle.lhg_math.specs.Tests.{AllOf}
 use Rattle.lhg_num.specs.FracArithmetic.{frac_arithmetic}
-use Rattle.lhg_num.specs.Marked.{Marked, valued}
+use Rattle.lhg_num.specs.Marked.{valued}
 use Rattle.lhg_num.specs.MarkedLaws.{IsPart}
 use Rattle.lhg_num.proofs.Halted.{part_halts}
 use Rattle.lhg_row.specs.Piece.{PlainPiece}
@@ -10,7 +10,6 @@ use Rattle.lhg_row.specs.System.{PlainSystem}
 use Rattle.lhg_plant.specs.OutCalculus.{PlainOuts, out}
 use Rattle.lhg_plant.specs.Views.{plain_plant, plain_state}
 use Rattle.lhg_union.specs.PolyLists.{ArePolys}
-use Rattle.lhg_union.specs.Regions.{plain_region}
 use Rattle.lhg_union.proofs.Halts.{all_on_rows}
 use Rattle.lhg_jump.specs.OutViews.{plain_outs}
 use Rattle.lhg_jump.proofs.Answering.{switch-there}
@@ -18,11 +17,10 @@ use Rattle.lhg_ctl.specs.Views.{plain_controller}
 use Rattle.lhg_check.specs.declared.firsts.First.{First}
 use Rattle.lhg_check.specs.Check.{unsafe, bad_guard, escapes, first_piece, unsafe_pieces, broken_guards, lost_pieces, sample_at, from_of, check}
 use Rattle.lhg_check.specs.CheckFacts.{HasReachedFor}
-use Rattle.lhg_check.specs.CheckLaws.{IsExactVerdict}
 use Rattle.lhg_check.specs.Views.{plain_verdict, plain_first, IsFirstAmong}
 use Rattle.lhg_check.proofs.Checks.{check_work}
 use Rattle.lhg_check.proofs.FirstSteps.{part_valued, rest_part_of, first_some, first_missing, some_if}
-use Rattle.lhg_check.proofs.InsideSteps.{is-checked, is-checkable, away-inside}
+use Rattle.lhg_check.proofs.InsideSteps.{is-checkable, away-inside}
 use Rattle.lhg_check.proofs.VerdictSteps.{unsafe_rest, guard_rest, escape_rest, valid_rest, unsafe_exact, guard_exact, escape_exact, valid_exact}
 use Rattle.lhg_check.proofs.checking.check.Goals as goal
 

@@ -1,4 +1,4 @@
-use Rattle.std.proofs.Common.{◌≡◌, ◌<◌, ◌≤◌, ℕ, length, sym, ◌∙◌, below_more, rules, arith}
+use Rattle.std.proofs.Common.{◌<◌, ◌≤◌, ℕ, length, below_more, rules, arith}
 use Rattle.std.proofs.lemmas.List.{length-map}
 use Rattle.std.proofs.lemmas.Option.{slice_get_within}
 use Rattle.lhg_num.specs.Marked.{valued}

@@ -1,4 +1,3 @@
-use Rattle.std.proofs.Common.{ℕ}
 use Rattle.lhg_check.proofs.firsts.first_left.Goals as goal
 
 pub returns-clause-vars : goal.returns-clause-vars

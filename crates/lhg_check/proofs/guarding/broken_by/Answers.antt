@@ -1,6 +1,5 @@
-use Rattle.std.proofs.Common.{◌≡◌, ◌<◌, true, List, [], ◌∷◌, length, sym, ap, ◌∙◌, arith}
+use Rattle.std.proofs.Common.{◌≡◌, ◌<◌, true, length, sym, ap, ◌∙◌, arith}
 use Rattle.std.specs.Prelude.{◌==◌}
-use Rattle.lhg_row.specs.Piece.{PlainPiece}
 use Rattle.lhg_row.specs.Lists.{is_nil}
 use Rattle.lhg_plant.specs.Views.{plain_plant, plain_switch}
 use Rattle.lhg_union.specs.PolyLists.{lines_of}

@@ -1,4 +1,3 @@
-use Rattle.std.proofs.Common.{◌≡◌}
 use Rattle.lhg_num.specs.Marked.{valued}
 use Rattle.lhg_num.proofs.Halted.{part_halts}
 use Rattle.lhg_plant.specs.Views.{plain_plant, plain_switch}

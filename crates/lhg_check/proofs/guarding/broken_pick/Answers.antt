@@ -1,4 +1,4 @@
-use Rattle.std.proofs.Common.{◌≡◌, ◌<◌, List, [], length, vec_len, ap, ◌∙◌, subst, arith}
+use Rattle.std.proofs.Common.{◌<◌, List, [], length, ap, ◌∙◌, subst, arith}
 use Rattle.lhg_num.specs.Halting.{IsHaltedBy}
 use Rattle.lhg_num.specs.Marked.{valued}
 use Rattle.lhg_num.proofs.Halted.{part_halts}

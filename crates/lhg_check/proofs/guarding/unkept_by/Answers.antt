@@ -1,6 +1,6 @@
-use Rattle.std.proofs.Common.{◌≡◌, ◌<◌, List, length, Some, None, sym, ap, ◌∙◌, subst, arith}
+use Rattle.std.proofs.Common.{◌<◌, List, length, sym, ap, ◌∙◌, subst, arith}
 use Rattle.lhg_num.specs.Halting.{IsHaltedBy}
-use Rattle.lhg_num.specs.Marked.{Marked, valued}
+use Rattle.lhg_num.specs.Marked.{valued}
 use Rattle.lhg_num.specs.MarkedLaws.{IsPart}
 use Rattle.lhg_num.proofs.Halted.{part_halts}
 use Rattle.lhg_row.specs.Piece.{PlainPiece}

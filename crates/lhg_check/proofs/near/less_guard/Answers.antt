@@ -1,4 +1,4 @@
-use Rattle.std.proofs.Common.{[], cond, nat_eq, sym, ap, ◌∙◌, subst}
+use Rattle.std.proofs.Common.{[], cond, sym, ap, ◌∙◌, subst}
 use Rattle.std.proofs.lemmas.Bool.{ne_eqb}
 use Rattle.lhg_num.specs.FracArithmetic.{frac_arithmetic}
 use Rattle.lhg_row.specs.Lists.{minus}
