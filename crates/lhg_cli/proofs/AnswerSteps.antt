@@ -1,59 +1,79 @@
--- What is an answer to a plant, and to a source that may not tell its bytes?
-use Rattle.std.proofs.Common.{◌≡◌, ◌⊎◌, ℕ, List, Option, Some, None, IfSome, Result, Ok, Err, IfOk, inl, ◌∙◌, subst}
-use Rattle.std.specs.Io.KnownBytes.{IsAtEnd}
+-- What is an answer to a plant, to a source that may not tell its bytes, and to words?
+use Rattle.std.proofs.Common.{◌≡◌, ◌⊎◌, ℕ, List, Option, Some, None, IfSome, Result, Ok, Err, IfOk, inl, inr, refl, ◌∙◌, subst}
+use Rattle.lhg_plant.specs.Plant.{PlainPlant}
 use Rattle.lhg_plant.specs.Proper.{IsProper}
-use Rattle.lhg_cli.specs.Answer.{IsAnswer, EndsAt, IsPlantInput}
-use Rattle.lhg_cli.specs.PlantAnswer.{IsPlantAnswer}
-use Rattle.lhg_cli.specs.Words.{AsksSynth, AreKnown}
+use Rattle.lhg_cli.specs.Answer.{IsAnswer, IsAnswerTo, IsInputAnswer, IsPlantInput, IsSynthAnswer}
+use Rattle.lhg_cli.specs.PlantAnswer.{IsOutcome, IsPlantAnswer, IsStopText}
+use Rattle.lhg_cli.specs.Refusal.{IsRefusal}
+use Rattle.lhg_cli.specs.Words.{Asks}
+use Rattle.lhg_cli.specs.declared.request.Request.{Request}
 use Rattle.lhg_cli.specs.declared.status.Status.{Status}
 use Rattle.lhg_cli.specs.declared.status.Status.TheVariants as status
+use Rattle.lhg_cli.proofs.WordSteps.{one_request}
 
 -- what follows of the value of an answer
 pub ok_by : {T E : Type 0} (P Q : T → Type 0) (r : Result T E) → ((x : T) → P x → Q x) → IfOk r P → IfOk r Q
 ok_by P Q (Ok x) f h = f x h
 ok_by P Q (Err e) f h = tt
 
+-- where nothing solves the game, it does not matter how a solution would be told
+pub stop_text : (tells : List ℕ → Type 0) (a : PlainPlant) (n : ℕ) (s : Status) (text : List ℕ) → IsStopText a n s text → IsOutcome tells a n s text
+stop_text tells a n status.Done text h = absurd h
+stop_text tells a n status.No text h = h
+stop_text tells a n status.Words text h = h
+stop_text tells a n status.Text text h = h
+stop_text tells a n status.Wide text h = h
+stop_text tells a n status.Lists text h = h
+stop_text tells a n status.Spent text h = h
+stop_text tells a n status.Read text h = h
+stop_text tells a n status.Write text h = h
+stop_text tells a n status.Memory text h = h
+
 -- the answer to a plant is one to the input that is its text
-pub answers : (words : List (List ℕ)) (n : ℕ) (bytes : List ℕ) → AsksSynth words n → (input : IsPlantInput bytes) → IsProper input.plant → (s : Status) (text : List ℕ) → IsPlantAnswer input.plant n s text
-    → IsAnswer words (Some bytes) s text
-answers words n bytes asked input proper status.Done text h = ((n, asked), record { budget = n; asked = asked; input = input; proper = proper; answer = h })
-answers words n bytes asked input proper status.No text h = h
-answers words n bytes asked input proper status.Words text h = absurd h
-answers words n bytes asked input proper status.Text text h = absurd h
-answers words n bytes asked input proper status.Wide text h = ((n, asked), record { budget = n; asked = asked; input = input; proper = proper; answer = h })
-answers words n bytes asked input proper status.Lists text h = ((n, asked), record { budget = n; asked = asked; input = input; proper = proper; answer = h })
-answers words n bytes asked input proper status.Spent text h = ((n, asked), record { budget = n; asked = asked; input = input; proper = proper; answer = h })
-answers words n bytes asked input proper status.Read text h = h
-answers words n bytes asked input proper status.Write text h = h
-answers words n bytes asked input proper status.Memory text h = h
+pub answers : (n : ℕ) (bytes : List ℕ) → (input : IsPlantInput bytes) → IsProper input.plant → (s : Status) (text : List ℕ) → IsPlantAnswer input.plant n s text → IsSynthAnswer n (Some bytes) s text
+answers n bytes input proper status.Done text h = record { input = input; proper = proper; answer = h }
+answers n bytes input proper status.No text h = h
+answers n bytes input proper status.Words text h = h
+answers n bytes input proper status.Text text h = absurd h
+answers n bytes input proper status.Wide text h = record { input = input; proper = proper; answer = h }
+answers n bytes input proper status.Lists text h = record { input = input; proper = proper; answer = h }
+answers n bytes input proper status.Spent text h = record { input = input; proper = proper; answer = h }
+answers n bytes input proper status.Read text h = h
+answers n bytes input proper status.Write text h = h
+answers n bytes input proper status.Memory text h = h
+
+-- an answer is a refusal or one to a plant
+pub answer_is : (n : ℕ) (bytes : List ℕ) (s : Status) (text : List ℕ) → IsSynthAnswer n (Some bytes) s text → ((s ≡ status.Text) × IsRefusal bytes text) ⊎ IsInputAnswer n bytes s text
+answer_is n bytes status.Done text h = inr h
+answer_is n bytes status.No text h = absurd h
+answer_is n bytes status.Words text h = absurd h
+answer_is n bytes status.Text text h = inl (refl, h)
+answer_is n bytes status.Wide text h = inr h
+answer_is n bytes status.Lists text h = inr h
+answer_is n bytes status.Spent text h = inr h
+answer_is n bytes status.Read text h = absurd h
+answer_is n bytes status.Write text h = absurd h
+answer_is n bytes status.Memory text h = absurd h
 
 -- the bytes that were read are those that the source tells, where it tells them
-pub told : (words : List (List ℕ)) (input : Option (List ℕ)) (bytes read : List ℕ) (s : Status) (text : List ℕ) → IfSome input (λ left. read ≡ left) → bytes ≡ read → IsAnswer words (Some bytes) s text
-    → IsAnswer words input s text
-told words (Some left) bytes read s text same e h = subst (λ bs. IsAnswer words (Some bs) s text) (e ∙ same) h
-told words None bytes read status.Done text same e h = (h.0, tt)
-told words None bytes read status.No text same e h = h
-told words None bytes read status.Words text same e h = h
-told words None bytes read status.Text text same e h = (h.0, tt)
-told words None bytes read status.Wide text same e h = (h.0, tt)
-told words None bytes read status.Lists text same e h = (h.0, tt)
-told words None bytes read status.Spent text same e h = (h.0, tt)
-told words None bytes read status.Read text same e h = h
-told words None bytes read status.Write text same e h = h
-told words None bytes read status.Memory text same e h = h
+pub told : (n : ℕ) (input : Option (List ℕ)) (bytes read : List ℕ) (s : Status) (text : List ℕ) → IfSome input (λ left. read ≡ left) → bytes ≡ read → IsSynthAnswer n (Some bytes) s text
+    → IsSynthAnswer n input s text
+told n (Some left) bytes read s text same e h = subst (λ bs. IsSynthAnswer n (Some bs) s text) (e ∙ same) h
+told n None bytes read status.Done text same e h = tt
+told n None bytes read status.No text same e h = h
+told n None bytes read status.Words text same e h = h
+told n None bytes read status.Text text same e h = tt
+told n None bytes read status.Wide text same e h = tt
+told n None bytes read status.Lists text same e h = tt
+told n None bytes read status.Spent text same e h = tt
+told n None bytes read status.Read text same e h = h
+told n None bytes read status.Write text same e h = h
+told n None bytes read status.Memory text same e h = h
 
--- an answer to known words was made at the end of the input
-pub ends : (words : List (List ℕ)) (before now input : Option (List ℕ)) (s : Status) (text : List ℕ) → AreKnown words → IsAtEnd now → IsAnswer words input s text → EndsAt before now s
-ends words before now input status.Done text known at h = at
-ends words before now input status.No text known at h = at
-ends words before now input status.Words text known at h = absurd (h.0 known)
-ends words before now input status.Text text known at h = inl at
-ends words before now input status.Wide text known at h = at
-ends words before now input status.Lists text known at h = at
-ends words before now input status.Spent text known at h = at
-ends words before now input status.Read text known at h = absurd h
-ends words before now input status.Write text known at h = absurd h
-ends words before now input status.Memory text known at h = absurd h
+-- the answer to words is one to what they ask for
+pub its_answer : (words : List (List ℕ)) (input : Option (List ℕ)) (s : Status) (text : List ℕ) (r : Request) → Asks words r → IsAnswer words input s text → IsAnswerTo r input s text
+its_answer words input s text r asked (inl a) = subst (λ (q : Request). IsAnswerTo q input s text) (one_request words a.request r a.asked asked) a.answer
+its_answer words input s text r asked (inr h) = absurd (h.1 (r, asked))
 
 -- what is promised where a fault did not come, where it came
 pub faulted : (X P : Type 0) {R : Type 0} (A : List ℕ → Type 0) (input : Option (List ℕ)) → R → IfSome input (λ bytes. A bytes → P → (R → ⊥) → X)

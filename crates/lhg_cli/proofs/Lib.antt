@@ -1,6 +1,7 @@
 pub mod AnswerSteps
 pub mod Complete
 pub mod GuardSteps
+pub mod PieceCounts
 pub mod Placed
 pub mod WholeInput
 pub mod WordSteps

@@ -1,9 +1,12 @@
--- Words ask for one budget, and which it may be.
-use Rattle.std.proofs.Common.{◌≡◌, ◌<◌, ◌≤◌, ◌^◌, ℕ, List, [], ◌∷◌, length, map, get_or, Option, Some, None, IfSome, Result, Ok, Err, inl, inr, ap, sym, ◌∙◌, arith}
-use Rattle.std.specs.Prelude.{decimal}
+-- Words ask for one thing, and with which numbers they may.
+use Rattle.std.proofs.Common.{◌≡◌, ◌≢◌, ◌<◌, ◌≤◌, ◌^◌, ℕ, List, [], ◌∷◌, length, map, get_or, Option, Some, None, IfSome, Result, Ok, Err, inl, inr, ap, sym, ◌∙◌, arith}
+use Rattle.std.specs.Prelude.{codes, decimal}
 use Rattle.std.specs.Str.Parse.{digits_value, ParsesUnsigned}
 use Rattle.std.proofs.lemmas.Fmt.{decimal_is_IsNumeral, parse-decimal}
-use Rattle.lhg_cli.specs.Words.{AsksSynth, most_rounds}
+use Rattle.lhg_gen.specs.Sizes.{IsSize}
+use Rattle.lhg_cli.specs.Words.{AsksSynth, AsksGen, Asks, most_rounds}
+use Rattle.lhg_cli.specs.declared.request.Request.{Request}
+use Rattle.lhg_cli.specs.declared.request.Request.TheVariants.{Synth, Gen}
 
 -- the second word, where there is one
 abbrev second : List (List ℕ) → List ℕ
@@ -19,11 +22,59 @@ same_number m n k l e = sym (decimal_is_IsNumeral m k).1 ∙ ap (λ ds. digits_v
 one_not_two : (u v w : List ℕ) → u ∷ [] ≡ v ∷ w ∷ [] → ⊥
 one_not_two u v w e = cc
 
-pub one_budget : (words : List (List ℕ)) (m n : ℕ) → AsksSynth words m → AsksSynth words n → m ≡ n
+one_budget : (words : List (List ℕ)) (m n : ℕ) → AsksSynth words m → AsksSynth words n → m ≡ n
 one_budget words m n (inl h) (inl k) = h.1 ∙ sym k.1
 one_budget words m n (inl h) (inr k) = absurd (one_not_two _ _ _ (sym h.0 ∙ k.0))
 one_budget words m n (inr h) (inl k) = absurd (one_not_two _ _ _ (sym k.0 ∙ h.0))
 one_budget words m n (inr h) (inr k) = let p = h.2 in let q = k.2 in same_number m n (omega (arith, p)) (omega (arith, q)) (ap second (sym h.0 ∙ k.0))
+
+one_size : (words : List (List ℕ)) (j k : ℕ) → AsksGen words j → AsksGen words k → j ≡ k
+one_size words j k g h = let p = g.1.few in let q = h.1.few in same_number j k (omega (arith, p)) (omega (arith, q)) (ap second (sym g.0 ∙ h.0))
+
+-- the first word, where there is one
+abbrev first : List (List ℕ) → List ℕ
+first [] = []
+first (w ∷ ws) = w
+
+-- a synthesis is no generated plant
+synth_not_gen : codes "synth" ≡ codes "gen" → ⊥
+synth_not_gen e = cc
+
+pub not_both : (words : List (List ℕ)) (n k : ℕ) → AsksSynth words n → AsksGen words k → ⊥
+not_both words n k (inl h) g = synth_not_gen (ap first (sym h.0 ∙ g.0))
+not_both words n k (inr h) g = synth_not_gen (ap first (sym h.0 ∙ g.0))
+
+pub one_request : (words : List (List ℕ)) (q r : Request) → Asks words q → Asks words r → q ≡ r
+one_request words (Synth m) (Synth n) h k = ap Synth (one_budget words m n h k)
+one_request words (Synth n) (Gen k) h g = absurd (not_both words n k h g)
+one_request words (Gen k) (Synth n) g h = absurd (not_both words n k h g)
+one_request words (Gen j) (Gen k) g h = ap Gen (one_size words j k g h)
+
+-- ---- words that ask for nothing
+pub not_with_rounds : (word number : List ℕ) → word ≡ codes "synth" → ((n : ℕ) → 1 ≤ n → n ≤ most_rounds → number ≢ decimal n) → (r : Request) → ¬ Asks (word ∷ number ∷ []) r
+not_with_rounds word number e none (Synth n) (inl h) = one_not_two _ _ _ (sym h.0)
+not_with_rounds word number e none (Synth n) (inr h) = none n h.1 h.2 (ap second h.0)
+not_with_rounds word number e none (Gen k) g = synth_not_gen (sym e ∙ ap first g.0)
+
+pub not_with_size : (word number : List ℕ) → word ≡ codes "gen" → ((k : ℕ) → 1 ≤ k → k ≤ 64 → number ≢ decimal k) → (r : Request) → ¬ Asks (word ∷ number ∷ []) r
+not_with_size word number e none (Synth n) (inl h) = one_not_two _ _ _ (sym h.0)
+not_with_size word number e none (Synth n) (inr h) = synth_not_gen (sym (ap first h.0) ∙ e)
+not_with_size word number e none (Gen k) g = none k g.1.some g.1.few (ap second g.0)
+
+pub not_with_word : (word number : List ℕ) → word ≢ codes "synth" → word ≢ codes "gen" → (r : Request) → ¬ Asks (word ∷ number ∷ []) r
+not_with_word word number s g (Synth n) (inl h) = one_not_two _ _ _ (sym h.0)
+not_with_word word number s g (Synth n) (inr h) = s (ap first h.0)
+not_with_word word number s g (Gen k) h = g (ap first h.0)
+
+pub not_asked : (words : List (List ℕ)) → words ≢ codes "synth" ∷ [] → length words ≢ 2 → (r : Request) → ¬ Asks words r
+not_asked words one two (Synth n) (inl h) = one h.0
+not_asked words one two (Synth n) (inr h) = two (ap length h.0)
+not_asked words one two (Gen k) g = two (ap length g.0)
+
+-- ---- within which bounds the budget is
+pub synth_within : (words : List (List ℕ)) (n : ℕ) → AsksSynth words n → (1 ≤ n) × (n ≤ most_rounds)
+synth_within words n (inl h) = let e = h.1 in (omega (arith, e), omega (arith, e))
+synth_within words n (inr h) = (h.1, h.2)
 
 -- ---- a word that is read as a number
 -- the number of an answer, where it is one
@@ -32,11 +83,11 @@ ok_number (Ok n) = n
 ok_number (Err e) = 0
 
 -- the number that is read of a budget in decimal is that budget
-pub read_same : {E : Type 0} (m n : ℕ) (bytes : List ℕ) (r : Result ℕ E) → m ≤ most_rounds → bytes ≡ decimal m → ParsesUnsigned 32 10 bytes r → r ≡ Ok n → m ≡ n
+pub read_same : {E : Type 0} (m n : ℕ) (bytes : List ℕ) (r : Result ℕ E) → m < 2 ^ 32 → bytes ≡ decimal m → ParsesUnsigned 32 10 bytes r → r ≡ Ok n → m ≡ n
 read_same m n bytes r high e parses is = ap ok_number (sym (parse-decimal 32 m bytes r (omega (arith, high)) (omega (arith, high)) e parses) ∙ is)
 
 -- and there is one
-pub read_some : {E : Type 0} (m : ℕ) (bytes : List ℕ) (r : Result ℕ E) → m ≤ most_rounds → bytes ≡ decimal m → ParsesUnsigned 32 10 bytes r → r ≡ Ok m
+pub read_some : {E : Type 0} (m : ℕ) (bytes : List ℕ) (r : Result ℕ E) → m < 2 ^ 32 → bytes ≡ decimal m → ParsesUnsigned 32 10 bytes r → r ≡ Ok m
 read_some m bytes r high e parses = parse-decimal 32 m bytes r (omega (arith, high)) (omega (arith, high)) e parses
 
 -- ---- lists of one and of two words

@@ -1,11 +1,11 @@
 -- Which text answers a plant within a budget of rounds, with which status?
-use Rattle.std.specs.Prelude.{◌≡◌, ◌≤◌, ◌⊎◌, ℕ, Bool, false, List, ◌++◌, codes, decimal}
+use Rattle.std.specs.Prelude.{◌≡◌, ◌≤◌, ◌⊎◌, ℕ, Bool, List, ◌++◌, codes, decimal}
 use Rattle.lhg_num.specs.Marked.{Marked}
 use Rattle.lhg_plant.specs.Controller.{PlainController}
 use Rattle.lhg_plant.specs.Loss.{PlainLoss}
 use Rattle.lhg_plant.specs.Plant.{PlainPlant}
 use Rattle.lhg_plant.specs.State.{PlainState}
-use Rattle.lhg_loss.specs.Iterate.{solution, solved, spent, work}
+use Rattle.lhg_loss.specs.Iterate.{solution, solved, spent}
 use Rattle.lhg_loss.specs.StageFacts.{IsSolved, IsSpent}
 use Rattle.lhg_loss.specs.WorkLaws.{IsStopIn}
 use Rattle.lhg_row_text.specs.PrintedLine.{line}
@@ -39,21 +39,23 @@ pub record IsSpentText (a : PlainPlant) (budget : ℕ) (text : List ℕ) : Type 
   pub calculus : solution a budget ≡ spent state
   pub printed : text ≡ line (codes "spent " ++ decimal budget) ++ line (codes "state " ++ state_text a state)
 
--- the text that stands for the status
-abbrev pub IsPlantAnswer : PlainPlant → ℕ → Status → List ℕ → Type 0
-IsPlantAnswer a budget status.Done text = IsReport a budget text
-IsPlantAnswer a budget status.No text = ⊥
-IsPlantAnswer a budget status.Words text = ⊥
-IsPlantAnswer a budget status.Text text = ⊥
-IsPlantAnswer a budget status.Wide text = IsStopped a budget (codes "wide") (λ m. m.wide) text
-IsPlantAnswer a budget status.Lists text = IsStopped a budget (codes "rows") (λ m. m.rows) text ⊎ IsStopped a budget (codes "pieces") (λ m. m.pieces) text
-IsPlantAnswer a budget status.Spent text = IsSpentText a budget text
-IsPlantAnswer a budget status.Read text = ⊥
-IsPlantAnswer a budget status.Write text = ⊥
-IsPlantAnswer a budget status.Memory text = ⊥
+-- the text that stands for the status, where texts of this kind tell what solves the game
+abbrev pub IsOutcome : (List ℕ → Type 0) → PlainPlant → ℕ → Status → List ℕ → Type 0
+IsOutcome tells a budget status.Done text = tells text
+IsOutcome tells a budget status.No text = ⊥
+IsOutcome tells a budget status.Words text = ⊥
+IsOutcome tells a budget status.Text text = ⊥
+IsOutcome tells a budget status.Wide text = IsStopped a budget (codes "wide") (λ m. m.wide) text
+IsOutcome tells a budget status.Lists text = IsStopped a budget (codes "rows") (λ m. m.rows) text ⊎ IsStopped a budget (codes "pieces") (λ m. m.pieces) text
+IsOutcome tells a budget status.Spent text = IsSpentText a budget text
+IsOutcome tells a budget status.Read text = ⊥
+IsOutcome tells a budget status.Write text = ⊥
+IsOutcome tells a budget status.Memory text = ⊥
 
--- the calculus is within its limits in the work of each round up to this one
-pub record IsWithinTo (a : PlainPlant) (budget round : ℕ) : Type 0 where
-  pub numbers : (i : ℕ) → i ≤ round → (work a budget i).wide ≡ false
-  pub rows : (i : ℕ) → i ≤ round → (work a budget i).rows ≡ false
-  pub pieces : (i : ℕ) → i ≤ round → (work a budget i).pieces ≡ false
+-- the text that stands for the status where a controller is asked for
+abbrev pub IsPlantAnswer : PlainPlant → ℕ → Status → List ℕ → Type 0
+IsPlantAnswer a budget s text = IsOutcome (IsReport a budget) a budget s text
+
+-- the text that stands for the status where nothing solves the game
+abbrev pub IsStopText : PlainPlant → ℕ → Status → List ℕ → Type 0
+IsStopText a budget s text = IsOutcome (λ t. ⊥) a budget s text

@@ -1,5 +1,8 @@
 -- Which words ask for what?
 use Rattle.std.specs.Prelude.{◌≡◌, ◌≤◌, ◌⊎◌, ℕ, List, [], ◌∷◌, codes, decimal}
+use Rattle.lhg_gen.specs.Sizes.{IsSize}
+use Rattle.lhg_cli.specs.declared.request.Request.{Request}
+use Rattle.lhg_cli.specs.declared.request.Request.TheVariants.{Synth, Gen}
 
 -- the number of rounds where the words name none, and the largest that they may name
 abbrev pub usual_budget : ℕ
@@ -12,6 +15,24 @@ most_rounds = 1000
 abbrev pub AsksSynth : List (List ℕ) → ℕ → Type 0
 AsksSynth words n = ((words ≡ codes "synth" ∷ []) × (n ≡ usual_budget)) ⊎ ((words ≡ codes "synth" ∷ decimal n ∷ []) × (1 ≤ n) × (n ≤ most_rounds))
 
+-- the summary of a generated plant with k locations is asked for: `gen K`, K being k in decimal, from 1 to 64
+abbrev pub AsksGen : List (List ℕ) → ℕ → Type 0
+AsksGen words k = (words ≡ codes "gen" ∷ decimal k ∷ []) × IsSize k
+
+-- what the words ask for
+abbrev pub Asks : List (List ℕ) → Request → Type 0
+Asks words (Synth n) = AsksSynth words n
+Asks words (Gen k) = AsksGen words k
+
 -- the words are some that the program knows
 abbrev pub AreKnown : List (List ℕ) → Type 0
-AreKnown words = (n : ℕ) × AsksSynth words n
+AreKnown words = (r : Request) × Asks words r
+
+-- what is answered from the input
+abbrev pub NeedsInput : Request → Type 0
+NeedsInput (Synth n) = Unit {0}
+NeedsInput (Gen k) = ⊥
+
+-- the words ask for something that is answered from the input
+abbrev pub AskForInput : List (List ℕ) → Type 0
+AskForInput words = (r : Request) × Asks words r × NeedsInput r

@@ -5,8 +5,11 @@ mod answers;
 mod input;
 #[cfg(test)]
 mod region_tests;
+mod request;
 mod solving;
 mod status;
+mod summing;
+mod synthesis;
 mod telling;
 #[cfg(test)]
 mod tests;

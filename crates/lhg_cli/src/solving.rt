@@ -11,7 +11,7 @@ ghost use Rattle.lhg_iterate.specs.Outcomes.{IsStoppedBy};
 ghost use Rattle.lhg_text.specs.ReportConditions.{IsPlacedLoss};
 ghost use Rattle.lhg_text.specs.ReportLaws.{IsWrittenReport, SameReport};
 ghost use Rattle.lhg_text.specs.ReportText.{report_text};
-ghost use Rattle.lhg_cli.specs.PlantAnswer.{IsPlantAnswer};
+ghost use Rattle.lhg_cli.specs.PlantAnswer.{IsPlantAnswer, IsStopText};
 ghost use Rattle.lhg_cli.specs.Words.{most_rounds};
 
 use crate::Status;
@@ -75,10 +75,10 @@ fn report(
     }
 }
 
-// The answer where nothing solves the game within the budget.
-fn stopped(alloc: Global, plant: &Plant, budget: u32, stop: &Stop) -> Result<Answer, AllocError>
+/// The answer where nothing solves the game within the budget.
+pub fn stopped(alloc: Global, plant: &Plant, budget: u32, stop: &Stop) -> Result<Answer, AllocError>
     requires { IsStoppedBy (plain_plant plant.now) budget stop.now }
-    ensures { IfOk result (λ a. IsPlantAnswer (plain_plant plant.now) budget a.status a.text.items) }
+    ensures { IfOk result (λ a. IsStopText (plain_plant plant.now) budget a.status a.text.items) }
 {
     match stop {
         Stop::Wide(round) => Ok(Answer {

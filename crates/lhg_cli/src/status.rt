@@ -11,7 +11,7 @@ pub enum Status {
     No,
     /// The words are none that the program knows.
     Words,
-    /// The input is too long, is no text of the grammar, or is a plant that is answered later.
+    /// The input is too long, or is no text of the grammar.
     Text,
     /// A number was past its limit.
     Wide,

@@ -282,7 +282,33 @@ fn texts(rt: HostRuntime) -> Result<(), Fail> {
     Ok(())
 }
 
-const OTHER_WORDS: [&[&str]; 8] = [
+// What is asked of no input, with the answers.
+const GENERATED: [(&[&str], &[u8]); 3] = [
+    (
+        &["gen", "1"],
+        b"gen 1\nrounds 2\npieces 1\nguards 0\nlosses 2\n",
+    ),
+    (
+        &["gen", "3"],
+        b"gen 3\nrounds 4\npieces 3\nguards 2\nlosses 6\n",
+    ),
+    (
+        &["gen", "64"],
+        b"gen 64\nrounds 65\npieces 64\nguards 63\nlosses 128\n",
+    ),
+];
+
+#[test]
+fn generated(rt: HostRuntime) -> Result<(), Fail> {
+    for (words, text) in GENERATED {
+        let (ended, written) = run(rt.alloc(), words, b"", 1, NEVER)?;
+        assert_eq!(rt; ended, Status::Done);
+        assert_eq!(rt; written.as_slice(), text);
+    }
+    Ok(())
+}
+
+const OTHER_WORDS: [&[&str]; 11] = [
     &[],
     &["synth", "0"],
     &["synth", "01"],
@@ -290,7 +316,10 @@ const OTHER_WORDS: [&[&str]; 8] = [
     &["synth", "1", "2"],
     &["solve"],
     &["gen"],
+    &["gen", "0"],
+    &["gen", "01"],
     &["gen", "65"],
+    &["gen", "3", "4"],
 ];
 
 #[test]

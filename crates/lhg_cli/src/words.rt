@@ -1,37 +1,56 @@
 // What do the words ask for?
-ghost use Rattle.std.specs.Prelude.{◌≡◌, ◌≢◌, ◌≤◌, ℕ, decimal, map, string_bytes, IfSome, IsNone};
-ghost use Rattle.lhg_cli.specs.Words.{AsksSynth, most_rounds, usual_budget};
+ghost use Rattle.std.specs.Prelude.{◌≡◌, ◌≢◌, ◌≤◌, ◌∷◌, [], ℕ, decimal, map, string_bytes, IfSome, IsNone};
+ghost use Rattle.lhg_cli.specs.Words.{Asks};
 
+use crate::request::Request;
 use itoa::Buffer;
 
-const MOST_ROUNDS: u32 = 1_000;
+/// The most rounds that are computed, for a word and for a generated plant.
+pub const MOST_ROUNDS: u32 = 1_000;
 
 const USUAL_BUDGET: u32 = 64;
 
-// The number of rounds that a word is, from 1 to 1,000 in decimal without a leading zero.
-fn rounds(word: &str) -> Option<u32>
-    ensures some { IfSome result (λ n. (word.now ≡ decimal n) × (1 ≤ n) × (n ≤ most_rounds)) }
-    ensures none { IsNone result → (n : ℕ) → 1 ≤ n → n ≤ most_rounds → word.now ≢ decimal n }
+const MOST_GENERATED: u32 = 64;
+
+// The number that a word is in decimal without a leading zero, from 1 to the largest that it may be.
+fn number_up_to(most: u32, word: &str) -> Option<u32>
+    ensures some { IfSome result (λ n. (word.now ≡ decimal n) × (1 ≤ n) × (n ≤ most)) }
+    ensures none { IsNone result → (n : ℕ) → 1 ≤ n → n ≤ most → word.now ≢ decimal n }
 {
     let Ok(n) = word.parse::<u32>() else {
         return None;
     };
     let mut buffer = Buffer::new();
-    if n == 0 || n > MOST_ROUNDS || buffer.format(n) != word {
+    if n == 0 || n > most || buffer.format(n) != word {
         return None;
     }
     Some(n)
 }
 
-/// The budget of rounds of a synthesis, where the words ask for one.
-pub fn budget(words: &[String]) -> Option<u32>
-    ensures some { IfSome result (λ n. AsksSynth (map (λ w. string_bytes w) words.now) n) }
-    ensures within { IfSome result (λ n. (1 ≤ n) × (n ≤ most_rounds)) }
-    ensures none { IsNone result → (n : ℕ) → ¬ AsksSynth (map (λ w. string_bytes w) words.now) n }
+// What is asked for with a number.
+fn with_number(word: &str, number: &str) -> Option<Request>
+    ensures some { IfSome result (λ r. Asks (word.now ∷ number.now ∷ []) r) }
+    ensures none { IsNone result → (r : Request) → ¬ Asks (word.now ∷ number.now ∷ []) r }
+{
+    if word == "synth" {
+        let rounds = number_up_to(MOST_ROUNDS, number)?;
+        Some(Request::Synth(rounds))
+    } else if word == "gen" {
+        let locations = number_up_to(MOST_GENERATED, number)?;
+        Some(Request::Gen(locations))
+    } else {
+        None
+    }
+}
+
+/// What the words ask for, where they ask for something.
+pub fn asked(words: &[String]) -> Option<Request>
+    ensures some { IfSome result (λ r. Asks (map (λ w. string_bytes w) words.now) r) }
+    ensures none { IsNone result → (r : Request) → ¬ Asks (map (λ w. string_bytes w) words.now) r }
 {
     match words {
-        [word] if word.as_str() == "synth" => Some(USUAL_BUDGET),
-        [word, number] if word.as_str() == "synth" => rounds(number.as_str()),
+        [word] if word.as_str() == "synth" => Some(Request::Synth(USUAL_BUDGET)),
+        [word, number] => with_number(word.as_str(), number.as_str()),
         _ => None,
     }
 }
