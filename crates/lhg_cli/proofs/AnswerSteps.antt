@@ -2,6 +2,7 @@
 use Rattle.std.proofs.Common.{◌≡◌, ◌⊎◌, ℕ, List, Option, Some, None, IfSome, Result, Ok, Err, IfOk, inl, inr, refl, ◌∙◌, subst}
 use Rattle.lhg_plant.specs.Plant.{PlainPlant}
 use Rattle.lhg_plant.specs.Proper.{IsProper}
+use Rattle.lhg_read.specs.PlantText.{IsSomePlantText}
 use Rattle.lhg_cli.specs.Answer.{IsAnswer, IsAnswerTo, IsInputAnswer, IsPlantInput, IsSynthAnswer}
 use Rattle.lhg_cli.specs.PlantAnswer.{IsOutcome, IsPlantAnswer, IsStopText}
 use Rattle.lhg_cli.specs.Refusal.{IsRefusal}
@@ -43,7 +44,7 @@ answers n bytes input proper status.Write text h = h
 answers n bytes input proper status.Memory text h = h
 
 -- an answer is a refusal or one to a plant
-pub answer_is : (n : ℕ) (bytes : List ℕ) (s : Status) (text : List ℕ) → IsSynthAnswer n (Some bytes) s text → ((s ≡ status.Text) × IsRefusal bytes text) ⊎ IsInputAnswer n bytes s text
+pub answer_is : (n : ℕ) (bytes : List ℕ) (s : Status) (text : List ℕ) → IsSynthAnswer n (Some bytes) s text → ((s ≡ status.Text) × IsRefusal IsSomePlantText bytes text) ⊎ IsInputAnswer n bytes s text
 answer_is n bytes status.Done text h = inr h
 answer_is n bytes status.No text h = absurd h
 answer_is n bytes status.Words text h = absurd h

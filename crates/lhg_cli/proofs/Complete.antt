@@ -21,7 +21,7 @@ use Rattle.lhg_cli.specs.declared.request.Request.TheVariants.{Synth, Gen}
 use Rattle.lhg_cli.specs.declared.status.Status.{Status}
 use Rattle.lhg_cli.specs.declared.status.Status.TheVariants as status
 use Rattle.lhg_cli.proofs.AnswerSteps.{answer_is, its_answer}
-use Rattle.lhg_cli.proofs.WholeInput.{some_text}
+use Rattle.lhg_cli.proofs.InputSteps.{not_refused}
 use Rattle.lhg_cli.proofs.WordSteps.{not_both}
 
 -- ---- a plant that is settled within the budget
@@ -68,9 +68,8 @@ no_summary k t text h = (outcome_laws (generated_plant k) most_rounds).not_solve
 
 -- ---- an input
 -- a plant is not refused as a text
-not_refused : (bytes text : List ℕ) → IsPlantInput bytes → ¬ IsRefusal bytes text
-not_refused bytes text t (inl long) = let l = long.long in let s = t.short in omega (arith, l, s)
-not_refused bytes text t (inr bad) = none_bad IsSomePlantText _ bad.number (some_text t.plant t.reads) bad.bad.first
+plant_not_refused : (bytes text : List ℕ) → IsPlantInput bytes → ¬ IsRefusal IsSomePlantText bytes text
+plant_not_refused bytes text t = not_refused IsSomePlantText bytes text t.short (record { tokens = t.reads.tokens; are = t.reads.are; is = (t.plant, t.reads.is) })
 
 -- an answer to an input is one to the plant that it is
 of_plant : (n : ℕ) (bytes : List ℕ) (t : IsPlantInput bytes) (s : Status) (text : List ℕ) → IsInputAnswer n bytes s text → IsProper t.plant × IsPlantAnswer t.plant n s text
@@ -82,14 +81,14 @@ module _ (n : ℕ) (bytes : List ℕ) (s : Status) (text : List ℕ) (h : IsSynt
   solvable_done : IsSolvable bytes n → (s ≡ status.Done) ⊎ (s ≡ status.Memory)
   solvable_done t =
       elim (answer_is n bytes s text h) [
-        | inl r ↦ absurd (not_refused bytes text t.input r.1)
+        | inl r ↦ absurd (plant_not_refused bytes text t.input r.1)
         | inr a ↦ let p = of_plant n bytes t.input s text a in settled_done (IsReport t.input.plant n) t.input.plant n p.0 t.settled s text p.1
       ]
 
   used_up_spent : IsUsedUp bytes n → (s ≡ status.Spent) ⊎ (s ≡ status.Memory)
   used_up_spent t =
       elim (answer_is n bytes s text h) [
-        | inl r ↦ absurd (not_refused bytes text t.input r.1)
+        | inl r ↦ absurd (plant_not_refused bytes text t.input r.1)
         | inr a ↦
             let p = of_plant n bytes t.input s text a in
             unsettled_spent (IsReport t.input.plant n) t.input.plant n t.unsettled (no_report t.input.plant n t.unsettled) s text p.1

@@ -4,7 +4,7 @@ use Rattle.std.specs.Io.KnownBytes.{IsAtEnd}
 use Rattle.lhg_lex.specs.Lines.{lines_of, most_bytes}
 use Rattle.lhg_plant.specs.Plant.{PlainPlant}
 use Rattle.lhg_plant.specs.Proper.{IsProper}
-use Rattle.lhg_read.specs.PlantText.{IsPlantText}
+use Rattle.lhg_read.specs.PlantText.{IsPlantText, IsSomePlantText}
 use Rattle.lhg_row_text.specs.PrintedLine.{line}
 use Rattle.lhg_cli.specs.PlantAnswer.{IsPlantAnswer}
 use Rattle.lhg_cli.specs.Refusal.{IsRefusal}
@@ -36,7 +36,7 @@ abbrev pub IsSynthAnswer : ℕ → Option (List ℕ) → Status → List ℕ →
 IsSynthAnswer n input status.Done text = IfSome input (λ bytes. IsInputAnswer n bytes status.Done text)
 IsSynthAnswer n input status.No text = ⊥
 IsSynthAnswer n input status.Words text = ⊥
-IsSynthAnswer n input status.Text text = IfSome input (λ bytes. IsRefusal bytes text)
+IsSynthAnswer n input status.Text text = IfSome input (λ bytes. IsRefusal IsSomePlantText bytes text)
 IsSynthAnswer n input status.Wide text = IfSome input (λ bytes. IsInputAnswer n bytes status.Wide text)
 IsSynthAnswer n input status.Lists text = IfSome input (λ bytes. IsInputAnswer n bytes status.Lists text)
 IsSynthAnswer n input status.Spent text = IfSome input (λ bytes. IsInputAnswer n bytes status.Spent text)

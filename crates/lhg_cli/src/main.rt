@@ -2,7 +2,10 @@
 #![tactic(auto)]
 
 mod answers;
-mod input;
+mod checking;
+mod judging;
+mod migrating;
+mod refusing;
 #[cfg(test)]
 mod region_tests;
 mod request;

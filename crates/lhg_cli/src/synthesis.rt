@@ -5,11 +5,11 @@ ghost use Rattle.lhg_cli.specs.Answer.{IsSynthAnswer, IsReadToEnd};
 ghost use Rattle.lhg_cli.specs.Words.{most_rounds};
 
 use crate::Status;
-use crate::answers::{bad_line, too_long};
-use crate::input::read_input;
+use crate::answers::too_long;
+use crate::refusing::refused;
 use crate::solving::{Answer, solved};
+use lhg_input::read_plant_input;
 use lhg_io::{INPUT_LIMIT, ReadAll, Source, read_all};
-use lhg_lex::ReadStop;
 use std::alloc::{AllocError, Global};
 
 // The answer to the bytes of an input within the limit, for a budget of rounds.
@@ -19,16 +19,9 @@ fn synth_of(alloc: Global, rounds: u32, bytes: &[u8]) -> Result<Answer, AllocErr
     requires high { rounds ≤ most_rounds }
     ensures { IfOk result (λ a. IsSynthAnswer rounds (Some bytes.now) a.status a.text.items) }
 {
-    match read_input(alloc, bytes) {
+    match read_plant_input(alloc, bytes) {
         Ok(plant) => solved(alloc, &plant, rounds),
-        Err(ReadStop::Bad { line, what, .. }) => {
-            let text = bad_line(alloc, line, what)?;
-            Ok(Answer {
-                status: Status::Text,
-                text,
-            })
-        }
-        Err(ReadStop::Memory) => Err(AllocError),
+        Err(stop) => refused(alloc, stop),
     }
 }
 
