@@ -3,7 +3,10 @@ pub mod Complete
 pub mod GeneratedGame
 pub mod GuardSteps
 pub mod InputSteps
+pub mod LostSteps
 pub mod PieceCounts
 pub mod Placed
+pub mod SeekComplete
+pub mod StatePlaces
 pub mod VerdictSteps
 pub mod WordSteps

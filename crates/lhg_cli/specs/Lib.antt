@@ -5,6 +5,7 @@ pub mod Numbers
 pub mod PlantAnswer
 pub mod Refusal
 pub mod Settling
+pub mod StateAnswer
 pub mod Summary
 pub mod Verdict
 pub mod Words
