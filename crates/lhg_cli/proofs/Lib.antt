@@ -3,10 +3,13 @@ pub mod Complete
 pub mod GeneratedGame
 pub mod GuardSteps
 pub mod InputSteps
+pub mod LogPlaces
 pub mod LostSteps
 pub mod PieceCounts
 pub mod Placed
+pub mod RunAnswers
 pub mod SeekComplete
 pub mod StatePlaces
+pub mod TracePlaces
 pub mod VerdictSteps
 pub mod WordSteps

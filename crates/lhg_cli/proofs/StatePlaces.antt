@@ -35,7 +35,7 @@ point_length [] (part ∷ parts) at e = absurd cc
 point_length (name ∷ names) [] at e = absurd cc
 point_length (name ∷ names) (part ∷ parts) at e = one_more (coordinate_of name part) (coordinates_of names parts) (length names) at (λ xs is. point_length names parts xs is) e
 
-point_fits : (names : List (List ℕ)) (tokens : List PlainToken) (at : PlainPoint) → point_of names tokens ≡ Some at → length at ≡ length names
+pub point_fits : (names : List (List ℕ)) (tokens : List PlainToken) (at : PlainPoint) → point_of names tokens ≡ Some at → length at ≡ length names
 unfolding point_of
 point_fits names tokens at e = point_length names (parts_of (cut is_comma tokens)) at e
 
@@ -49,10 +49,10 @@ location_there a token loc e =
     omega (arith, low, size))
 
 -- a state is placed
-abbrev IsPlaced : PlainPlant → PlainState → Type 0
+abbrev pub IsPlaced : PlainPlant → PlainState → Type 0
 IsPlaced a z = (z.loc < length a.locs) × (length z.at ≡ length a.vars)
 
-of_state : (a : PlainPlant) (tokens : List PlainToken) (z : PlainState) → state_of a tokens ≡ Some z → IsPlaced a z
+pub of_state : (a : PlainPlant) (tokens : List PlainToken) (z : PlainState) → state_of a tokens ≡ Some z → IsPlaced a z
 of_state a [] z e = absurd cc
 of_state a (name ∷ point) z e =
     option_and_then_some _ (location_in a name) z e

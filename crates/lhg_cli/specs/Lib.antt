@@ -4,6 +4,7 @@ pub mod Migration
 pub mod Numbers
 pub mod PlantAnswer
 pub mod Refusal
+pub mod RunAnswer
 pub mod Settling
 pub mod StateAnswer
 pub mod Summary

@@ -10,6 +10,7 @@ mod refusing;
 #[cfg(test)]
 mod region_tests;
 mod request;
+mod running;
 mod solving;
 mod status;
 mod summing;
