@@ -1,16 +1,14 @@
 -- The points of a log that is read have a value for each variable, its start is placed, and its entries are not too many.
-use Rattle.std.proofs.Common.{◌≡◌, ◌<◌, ◌≤◌, ◌+◌, ◌^◌, ℕ, suc, Bool, true, false, List, [], ◌∷◌, ◌++◌, length, map, Option, Some, None, Result, Ok, Err, refl, sym, ap, ◌∙◌, subst, arith, length-append}
+use Rattle.std.proofs.Common.{◌≡◌, ◌<◌, ◌≤◌, ◌^◌, ℕ, suc, Bool, true, false, List, [], ◌∷◌, length, map, Option, Some, None, Result, Ok, Err, refl, sym, ap, subst, arith, length-append}
 use Rattle.std.specs.Prelude.{if◌then◌else◌, codes}
 use Rattle.std.specs.Option.{option_map}
 use Rattle.std.proofs.lemmas.List.{length-map}
 use Rattle.std.proofs.lemmas.Option.{option_and_then_some}
-use Rattle.lhg_math.specs.Number.{Number}
 use Rattle.lhg_math.specs.Tests.{AllOf}
 use Rattle.lhg_lex.specs.LineTokens.{Spot, Fault, tokens_of}
 use Rattle.lhg_lex.specs.Lines.{lines_of, most_bytes}
 use Rattle.lhg_lex.specs.PlainToken.{PlainToken}
 use Rattle.lhg_lex.proofs.LineCounts.{lines_count}
-use Rattle.lhg_row.specs.Row.{PlainPoint}
 use Rattle.lhg_plant.specs.Plant.{PlainPlant}
 use Rattle.lhg_plant.specs.Run.{PlainEntry, flow_entry, env_entry, land_entry}
 use Rattle.lhg_plant.specs.State.{PlainState}
@@ -23,7 +21,7 @@ use Rattle.lhg_read.specs.TokenText.{token_line, token_lines}
 use Rattle.lhg_read.proofs.Answered.{was_there}
 use Rattle.lhg_ctl.specs.ControllerLine.{alone, is_uncontrollable, switch_in}
 use Rattle.lhg_ctl.specs.Draft.{PlainDraft}
-use Rattle.lhg_ctl.specs.LogText.{PlainLog, LogLine, entry, end, signed_by, timed, flow_of, env_of, log_by, log_line, start_line, said_entries}
+use Rattle.lhg_ctl.specs.LogText.{PlainLog, LogLine, entry, end, signed_by, timed, flow_of, env_of, log_line, start_line, said_entries}
 use Rattle.lhg_run.specs.Views.{IsOver}
 use Rattle.lhg_input.specs.Inputs.{IsLogInput}
 use Rattle.lhg_cli.proofs.StatePlaces.{IsPlaced, point_fits, of_state}

@@ -1,7 +1,6 @@
 -- The location of a state that is read is there, and the state has a value for each variable.
-use Rattle.std.proofs.Common.{◌≡◌, ◌<◌, ℕ, suc, Bool, true, false, List, [], ◌∷◌, length, Option, Some, None, cond, refl, sym, ap, ◌∙◌, subst, arith}
+use Rattle.std.proofs.Common.{◌≡◌, ◌<◌, ℕ, suc, Bool, true, false, List, [], ◌∷◌, length, Option, Some, None, refl, sym, ap, ◌∙◌, subst, arith}
 use Rattle.std.specs.Prelude.{if◌then◌else◌, codes}
-use Rattle.std.specs.Option.{option_map}
 use Rattle.std.proofs.lemmas.List.{length-map}
 use Rattle.std.proofs.lemmas.List.Quantifiers.{position-Some}
 use Rattle.std.proofs.lemmas.Option.{option_and_then_some}
@@ -19,7 +18,6 @@ use Rattle.lhg_read.specs.PlantText.{said_in}
 use Rattle.lhg_read.specs.PointText.{coordinate_of, coordinates_of, point_of}
 use Rattle.lhg_read.specs.Signs.{is_word, is_comma}
 use Rattle.lhg_read.specs.StateText.{location_in, state_of, state_line}
-use Rattle.lhg_read.specs.Term.{place_of}
 use Rattle.lhg_read.proofs.Answered.{was_there}
 use Rattle.lhg_input.specs.Inputs.{IsStateInput}
 

@@ -1,5 +1,5 @@
 -- The places of the steps of a run are those of the plant, and their points have a value for each variable.
-use Rattle.std.proofs.Common.{◌≡◌, ◌<◌, ◌≤◌, ℕ, zero, suc, Bool, true, false, cond, List, [], ◌∷◌, ◌++◌, length, get_or, take, slice_get, Option, Some, None, IsSomeAnd, inl, inr, refl, sym, ap, ◌∙◌, subst, arith}
+use Rattle.std.proofs.Common.{◌≡◌, ◌<◌, ℕ, zero, suc, Bool, true, false, cond, List, [], ◌∷◌, length, take, slice_get, Option, Some, None, IsSomeAnd, inl, inr, refl, sym, ◌∙◌, subst}
 use Rattle.std.proofs.lemmas.Option.{slice_get_within}
 use Rattle.lhg_math.specs.Number.{Number, lt, nought, mul}
 use Rattle.lhg_math.specs.Tests.{AllOf}
@@ -9,7 +9,7 @@ use Rattle.lhg_motion.specs.CheckPlaces.{check_is_place}
 use Rattle.lhg_motion.specs.Segment.{along}
 use Rattle.lhg_plant.specs.Controller.{PlainController}
 use Rattle.lhg_plant.specs.Inside.{IsRegionInside}
-use Rattle.lhg_plant.specs.Legal.{LegalFlow, LegalSwitch}
+use Rattle.lhg_plant.specs.Legal.{LegalFlow}
 use Rattle.lhg_plant.specs.Plant.{PlainPlant}
 use Rattle.lhg_plant.specs.Proper.{IsProper}
 use Rattle.lhg_plant.specs.Run.{PlainEntry, flow_entry, env_entry, land_entry, PlainStep, flowed, switched, landed, RunPlace, result_at, run_rows, state_along, run_flow, PassesFlow, StopsFlow, PicksFlow, IsLegalEntry, DoesEntry, RunsFrom, IsRun, resting}

@@ -1,5 +1,5 @@
 -- Which text tells the run of a controller that is written over a log, with which status?
-use Rattle.std.specs.Prelude.{◌≡◌, ◌⊎◌, ℕ, List, ◌++◌, codes, decimal, Option, Some, None}
+use Rattle.std.specs.Prelude.{◌≡◌, ◌⊎◌, ℕ, List, ◌++◌, codes, decimal, Some, None}
 use Rattle.lhg_plant.specs.Controller.{PlainController, IsValid}
 use Rattle.lhg_plant.specs.Log.{IsLegalLog, IsFirstIllegal}
 use Rattle.lhg_plant.specs.Plant.{PlainPlant}

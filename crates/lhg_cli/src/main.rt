@@ -4,6 +4,8 @@
 mod answers;
 mod checking;
 mod explaining;
+#[cfg(test)]
+mod game_tests;
 mod judging;
 mod migrating;
 mod refusing;

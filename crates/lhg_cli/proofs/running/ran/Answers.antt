@@ -1,7 +1,6 @@
-use Rattle.std.proofs.Common.{◌≡◌, ◌<◌, length, map, List, sym, ap, ◌∙◌, subst, arith}
+use Rattle.std.proofs.Common.{length, List, sym, ap, subst, arith}
 use Rattle.std.proofs.lemmas.List.{length-map}
 use Rattle.lhg_math.specs.Tests.{AllOf}
-use Rattle.lhg_lex.specs.Lines.{lines_of}
 use Rattle.lhg_plant.specs.Plant.{PlainPlant}
 use Rattle.lhg_plant.specs.Views.{plain_plant}
 use Rattle.lhg_ctl.specs.Draft.{PlainDraft}
@@ -12,7 +11,6 @@ use Rattle.lhg_ctl.specs.declared.entries.Entry.{Entry}
 use Rattle.lhg_run.specs.Views.{plain_entries, IsOver}
 use Rattle.lhg_input.specs.Inputs.{IsLogInput}
 use Rattle.lhg_cli.specs.RunAnswer.{IsRan}
-use Rattle.lhg_cli.specs.InputAnswer.{IsBytesAnswer}
 use Rattle.std.specs.Prelude.{IfOk}
 use Rattle.lhg_cli.proofs.InputSteps.{value_answer, stop_answer}
 use Rattle.lhg_cli.proofs.LogPlaces.{log_start, log_over, log_few}
