@@ -3,6 +3,7 @@
 
 mod answers;
 mod checking;
+mod inputs;
 mod judging;
 mod migrating;
 mod refusing;

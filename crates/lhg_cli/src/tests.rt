@@ -6,7 +6,7 @@ use std::test::Fail;
 
 const PLAIN: &[u8] = b"lhg 1\nvars x\nloc only\ninv 0 <= x <= 8\nflow still\nsafe x <= 8\nend\n";
 
-const USAGE: &[u8] = b"usage: lhg synth [N] | check | run | explain [N] | gen K\n";
+const USAGE: &[u8] = b"usage: lhg synth [N] | check | run | explain [N] | gen K | migrate\n";
 
 const SYNTH: &[&str] = &["synth"];
 
