@@ -3,6 +3,8 @@
 
 mod answers;
 mod checking;
+#[cfg(test)]
+mod controller_tests;
 mod inputs;
 mod judging;
 mod migrating;
