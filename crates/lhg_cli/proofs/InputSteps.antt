@@ -1,5 +1,5 @@
 -- What answers an input that is refused, and one that has a value?
-use Rattle.std.proofs.Common.{◌≡◌, ◌≤◌, ◌<◌, ◌+◌, ◌⊎◌, ℕ, List, Option, Some, None, IfSome, Result, Ok, Err, IfOk, length, replicate, inl, inr, refl, ◌∙◌, subst, arith}
+use Rattle.std.proofs.Common.{◌≡◌, ◌≤◌, ◌<◌, ◌+◌, ℕ, List, Option, Some, None, IfSome, Result, Ok, Err, IfOk, length, replicate, inl, inr, refl, ◌∙◌, subst, arith}
 use Rattle.std.proofs.lemmas.List.{length-replicate}
 use Rattle.lhg_lex.specs.Lines.{lines_of, most_bytes}
 use Rattle.lhg_lex.specs.declared.stops.ReadStop.{ReadStop}
@@ -7,7 +7,7 @@ use Rattle.lhg_lex.specs.declared.stops.ReadStop.TheVariants.{Bad, Memory}
 use Rattle.lhg_lex.proofs.FirstBadProofs.{none_bad}
 use Rattle.lhg_input.specs.BadLine.{HasBadLine}
 use Rattle.lhg_input.specs.Then.{IsSome}
-use Rattle.lhg_cli.specs.InputAnswer.{IsInput, HasValue, IsBytesAnswer, HasAnswer}
+use Rattle.lhg_cli.specs.InputAnswer.{IsInput, IsBytesAnswer, HasAnswer}
 use Rattle.lhg_cli.specs.Refusal.{IsRefusal, TellsStop}
 use Rattle.lhg_cli.specs.declared.status.Status.{Status}
 use Rattle.lhg_cli.specs.declared.status.Status.TheVariants as status
