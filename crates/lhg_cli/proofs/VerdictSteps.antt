@@ -1,5 +1,5 @@
 -- What does a verdict show, and which answer tells it?
-use Rattle.std.proofs.Common.{◌≡◌, ◌<◌, ◌⊎◌, inl, inr, ℕ, Bool, false, length, List, [], ◌∷◌, ◌++◌, Option, Some, None, Result, Ok, Err, IfOk, slice_get, codes, ap, sym, ◌∙◌, subst, append_assoc, refl}
+use Rattle.std.proofs.Common.{◌≡◌, inl, inr, ℕ, Bool, false, List, [], ◌∷◌, ◌++◌, Result, Ok, Err, IfOk, slice_get, ap, sym, ◌∙◌, subst, append_assoc, refl}
 use Rattle.lhg_math.specs.Tests.{false_true}
 use Rattle.lhg_num.specs.Marked.{Marked}
 use Rattle.lhg_num.specs.Halting.{IsHaltedBy}
@@ -97,8 +97,8 @@ valid_done w within is status.Done text h = refl
 valid_done w within is status.No text h = absurd (h.0 is)
 valid_done w within is status.Words text h = absurd h
 valid_done w within is status.Text text h = absurd h
-valid_done w within is status.Wide text h = no_stop w _ text _ within.0 h
-valid_done w within is status.Lists text h = elim h [ inl rows ↦ no_stop w _ text _ within.1 rows | inr pieces ↦ no_stop w _ text _ within.2 pieces ]
+valid_done w within is status.Wide text h = no_stop w _ text _ within.numbers h
+valid_done w within is status.Lists text h = elim h [ inl rows ↦ no_stop w _ text _ within.rows rows | inr pieces ↦ no_stop w _ text _ within.pieces pieces ]
 valid_done w within is status.Spent text h = absurd h
 valid_done w within is status.Read text h = absurd h
 valid_done w within is status.Write text h = absurd h
@@ -110,8 +110,8 @@ invalid_no w within not status.Done text h = absurd (not h.0)
 invalid_no w within not status.No text h = refl
 invalid_no w within not status.Words text h = absurd h
 invalid_no w within not status.Text text h = absurd h
-invalid_no w within not status.Wide text h = no_stop w _ text _ within.0 h
-invalid_no w within not status.Lists text h = elim h [ inl rows ↦ no_stop w _ text _ within.1 rows | inr pieces ↦ no_stop w _ text _ within.2 pieces ]
+invalid_no w within not status.Wide text h = no_stop w _ text _ within.numbers h
+invalid_no w within not status.Lists text h = elim h [ inl rows ↦ no_stop w _ text _ within.rows rows | inr pieces ↦ no_stop w _ text _ within.pieces pieces ]
 invalid_no w within not status.Spent text h = absurd h
 invalid_no w within not status.Read text h = absurd h
 invalid_no w within not status.Write text h = absurd h

@@ -15,7 +15,7 @@ use Rattle.lhg_ctl.specs.Making.{controller_of}
 use Rattle.lhg_check.specs.Check.{PlainVerdict, valid, unsafe, bad_guard, escapes, check}
 use Rattle.lhg_check.specs.CheckLaws.{IsExactVerdict}
 use Rattle.lhg_input.specs.Inputs.{IsControllerInput}
-use Rattle.lhg_cli.specs.InputAnswer.{IsBytesAnswer, HasAnswer}
+use Rattle.lhg_cli.specs.InputAnswer.{IsInput, IsBytesAnswer, HasAnswer}
 use Rattle.lhg_cli.specs.declared.status.Status.{Status}
 use Rattle.lhg_cli.specs.declared.status.Status.TheVariants as status
 
@@ -98,5 +98,22 @@ IsCheckAnswer input s text = HasAnswer (λ bytes. IsBytesAnswer IsControllerInpu
 
 -- ---- where the check has a verdict
 -- the calculus stays within its limits
-abbrev pub IsWithinCheck : PlainPlant × PlainDraft → Type 0
-IsWithinCheck written = ((check_of written).wide ≡ false) × ((check_of written).rows ≡ false) × ((check_of written).pieces ≡ false)
+pub record IsWithinCheck (written : PlainPlant × PlainDraft) : Type 0 where
+  pub numbers : (check_of written).wide ≡ false
+  pub rows : (check_of written).rows ≡ false
+  pub pieces : (check_of written).pieces ≡ false
+
+-- the input is a plant and a controller, and the calculus stays within its limits
+pub record IsDecided (bytes : List ℕ) : Type 0 where
+  pub input : IsInput IsControllerInput bytes
+  pub limits : IsWithinCheck input.value
+
+-- and the controller is valid
+pub record IsValidInput (bytes : List ℕ) : Type 0 where
+  pub decided : IsDecided bytes
+  pub holds : IsValid decided.input.value.0 (controller_in decided.input.value)
+
+-- and it is not
+pub record IsInvalidInput (bytes : List ℕ) : Type 0 where
+  pub decided : IsDecided bytes
+  pub fails : ¬ IsValid decided.input.value.0 (controller_in decided.input.value)

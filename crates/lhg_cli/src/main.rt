@@ -3,9 +3,12 @@
 
 mod answers;
 mod checking;
+#[cfg(test)]
+mod controller_tests;
 mod explaining;
 #[cfg(test)]
 mod game_tests;
+mod inputs;
 mod judging;
 mod migrating;
 mod refusing;
