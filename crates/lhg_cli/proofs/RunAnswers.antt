@@ -40,9 +40,9 @@ module _ (input : (PlainPlant × PlainDraft) × PlainLog) (t : IsWithinRun input
   by_check status.No text h = h.0 is
   by_check status.Words text h = h
   by_check status.Text text h = h
-  by_check status.Wide text h = false_true (sym t.check.0 ∙ h.marked)
-  by_check status.Lists text (inl h) = false_true (sym t.check.1 ∙ h.marked)
-  by_check status.Lists text (inr h) = false_true (sym t.check.2 ∙ h.marked)
+  by_check status.Wide text h = false_true (sym t.check.numbers ∙ h.marked)
+  by_check status.Lists text (inl h) = false_true (sym t.check.rows ∙ h.marked)
+  by_check status.Lists text (inr h) = false_true (sym t.check.pieces ∙ h.marked)
   by_check status.Spent text h = h
   by_check status.Read text h = h
   by_check status.Write text h = h
