@@ -1,14 +1,12 @@
 -- The first record that holds a lost state, the round in which it was removed, and the places of its escape.
-use Rattle.std.proofs.Common.{◌≡◌, ◌<◌, ◌≤◌, ◌-◌, ◌⊎◌, ℕ, zero, suc, List, [], ◌∷◌, length, map, get_or, slice_get, Option, Some, None, inl, inr, refl, sym, ap, ◌∙◌, subst, arith}
-use Rattle.std.specs.Prelude.{Contains, IsSomeAnd}
+use Rattle.std.proofs.Common.{◌≡◌, ◌<◌, ◌≤◌, ◌-◌, ℕ, zero, suc, List, [], ◌∷◌, length, get_or, slice_get, Option, Some, None, inl, inr, refl, sym, ap, ◌∙◌, subst, arith}
+use Rattle.std.specs.Prelude.{IsSomeAnd}
 use Rattle.std.proofs.lemmas.Option.{slice_get_within}
 use Rattle.lhg_math.specs.Tests.{AllOf}
 use Rattle.lhg_row.specs.Row.{PlainPoint}
 use Rattle.lhg_row.specs.Piece.{PlainPiece}
 use Rattle.lhg_motion.specs.Play.{PlainMove, IsPlay}
-use Rattle.lhg_plant.specs.Legal.{LegalSwitch}
 use Rattle.lhg_plant.specs.Loss.{PlainLoss, InLoss}
-use Rattle.lhg_plant.specs.OutBack.{Back}
 use Rattle.lhg_plant.specs.Plant.{PlainPlant, PlainLocation}
 use Rattle.lhg_plant.specs.Round.{InRound, IsRemovedIn}
 use Rattle.lhg_plant.specs.State.{PlainState, States, IsState}
@@ -20,7 +18,7 @@ use Rattle.lhg_iterate.specs.Seeking.{IsLost}
 use Rattle.lhg_explain.specs.Explanation.{PlainEscape}
 use Rattle.lhg_explain.specs.Explained.{IsHeldBy, IsLeft, IsExplained}
 use Rattle.lhg_explain.specs.Views.{plain_last}
-use Rattle.lhg_explain.proofs.HeldRecords.{there_listed, listed_there}
+use Rattle.lhg_explain.proofs.HeldRecords.{there_listed}
 use Rattle.lhg_text.specs.EscapeText.{plain_exit, IsFittingMove, IsPlacedExit}
 
 -- what is there has a place in the list

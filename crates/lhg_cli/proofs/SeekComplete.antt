@@ -1,18 +1,16 @@
 -- Where no limit is passed, what becomes of a state is told, or the budget is spent; and what is told is told exactly where it is so.
-use Rattle.std.proofs.Common.{◌≡◌, ◌⊎◌, ◌≤◌, ℕ, Bool, true, false, List, Result, Ok, Err, IfOk, inl, inr, refl, sym, ◌∙◌}
+use Rattle.std.proofs.Common.{◌≡◌, ℕ, List, inl, inr, refl, sym, ◌∙◌}
 use Rattle.lhg_lex.specs.Lines.{lines_of}
 use Rattle.lhg_math.specs.Tests.{false_true}
-use Rattle.lhg_num.specs.Marked.{Marked}
 use Rattle.lhg_plant.specs.Plant.{PlainPlant}
-use Rattle.lhg_plant.specs.State.{PlainState, IsState}
-use Rattle.lhg_iterate.specs.Seeking.{IsWideRecord, IsWideState}
+use Rattle.lhg_plant.specs.State.{PlainState}
+use Rattle.lhg_iterate.specs.Seeking.{IsWideState}
 use Rattle.lhg_iterate.specs.SeekLaws.{SoughtLaws}
 use Rattle.lhg_iterate.proofs.SoughtAnswers.{sought_laws}
 use Rattle.lhg_input.specs.Inputs.{IsStateInput}
 use Rattle.lhg_input.proofs.Wholes.{states_one}
 use Rattle.lhg_cli.specs.InputAnswer.{IsInput, IsBytesAnswer}
 use Rattle.lhg_cli.specs.StateAnswer.{IsTold, IsStateAnswer, IsWithinSeek, IsStillIn, IsSureStatus, IsToldExactly}
-use Rattle.lhg_cli.specs.declared.solving.Answer.{Answer}
 use Rattle.lhg_cli.specs.declared.status.Status.{Status}
 use Rattle.lhg_cli.specs.declared.status.Status.TheVariants as status
 use Rattle.lhg_cli.proofs.InputSteps.{of_value}

@@ -1,4 +1,4 @@
-use Rattle.std.proofs.Common.{◌≡◌, ℕ, List, length, Result, IfOk, arith}
+use Rattle.std.proofs.Common.{◌≡◌, ℕ, List, Result, IfOk, arith}
 use Rattle.std.proofs.lemmas.List.{length-map}
 use Rattle.lhg_lex.specs.Lines.{lines_of}
 use Rattle.lhg_plant.specs.Views.{plain_plant, plain_state, plain_location}
