@@ -1,5 +1,5 @@
 -- A plant whose outcome is determined has that answer, and any other input is refused.
-use Rattle.std.proofs.Common.{◌≡◌, ◌≤◌, ℕ, Bool, false, List, Option, Some, None, IfSome, ◌⊎◌, inl, inr, arith, refl, sym, ◌∙◌, subst}
+use Rattle.std.proofs.Common.{◌≡◌, ◌<◌, ◌≤◌, ℕ, Bool, false, List, Option, Some, None, IfSome, ◌⊎◌, inl, inr, arith, refl, sym, ◌∙◌, subst}
 use Rattle.lhg_lex.proofs.FirstBadProofs.{none_bad}
 use Rattle.lhg_math.specs.Tests.{false_true}
 use Rattle.lhg_num.specs.Marked.{Marked}
@@ -8,19 +8,22 @@ use Rattle.lhg_plant.specs.Proper.{IsProper}
 use Rattle.lhg_read.specs.PlantText.{IsSomePlantText}
 use Rattle.lhg_read.proofs.TextLawProofs.{text_laws}
 use Rattle.lhg_loss.specs.Iterate.{work}
+use Rattle.lhg_loss.specs.LimitFacts.{IsComputed}
+use Rattle.lhg_loss.specs.StageFacts.{RemovesSome}
 use Rattle.lhg_loss.proofs.LastRounds.{last_law}
 use Rattle.lhg_loss.proofs.Seeking.{outcome_laws}
 use Rattle.lhg_gen.specs.GeneratedPlant.{generated_plant}
 use Rattle.lhg_cli.specs.Answer.{IsAnswer, IsInputAnswer, IsPlantInput, IsSynthAnswer, IsSolvable, IsUsedUp}
 use Rattle.lhg_cli.specs.PlantAnswer.{IsOutcome, IsPlantAnswer, IsReport, IsStopped}
 use Rattle.lhg_cli.specs.Refusal.{IsRefusal}
-use Rattle.lhg_cli.specs.Settling.{IsSettled, IsUnsettled}
-use Rattle.lhg_cli.specs.Summary.{IsGenAnswer, IsSummary}
+use Rattle.lhg_cli.specs.Settling.{IsWithin, IsSettled, IsUnsettled}
+use Rattle.lhg_cli.specs.Summary.{IsSummary}
 use Rattle.lhg_cli.specs.Words.{AsksSynth, AsksGen, AskForInput, most_rounds}
 use Rattle.lhg_cli.specs.declared.request.Request.TheVariants.{Synth, Gen}
 use Rattle.lhg_cli.specs.declared.status.Status.{Status}
 use Rattle.lhg_cli.specs.declared.status.Status.TheVariants as status
 use Rattle.lhg_cli.proofs.AnswerSteps.{answer_is, its_answer}
+use Rattle.lhg_cli.proofs.GeneratedGame.{settles}
 use Rattle.lhg_cli.proofs.WholeInput.{some_text}
 use Rattle.lhg_cli.proofs.WordSteps.{not_both}
 
@@ -42,7 +45,24 @@ module _ (tells : List ℕ → Type 0) (a : PlainPlant) (n : ℕ) (proper : IsPr
   settled_done status.Write text h = absurd h
   settled_done status.Memory text h = absurd h
 
--- ---- a plant that is not, where no text tells of a solution
+-- ---- a plant of which not each round removes a state
+module _ (tells : List ℕ → Type 0) (a : PlainPlant) (n : ℕ) (t : IsWithin a n) (ends : ((j : ℕ) → 0 < j → j ≤ n → RemovesSome a j) → ⊥) where
+  no_mark : {P : Type 0} (limit text : List ℕ) (mark : Marked (Unit {0}) → Bool) → ((i : ℕ) → i ≤ n → IsComputed a i → mark (work a n i) ≡ false) → IsStopped a n limit mark text → P
+  no_mark limit text mark unmarked h = false_true (sym (unmarked h.round h.stop.within h.stop.computed) ∙ h.stop.marked)
+
+  within_done : (s : Status) (text : List ℕ) → IsOutcome tells a n s text → (s ≡ status.Done) ⊎ (s ≡ status.Memory)
+  within_done status.Done text h = inl refl
+  within_done status.No text h = absurd h
+  within_done status.Words text h = absurd h
+  within_done status.Text text h = absurd h
+  within_done status.Wide text h = no_mark _ text _ t.numbers h
+  within_done status.Lists text h = elim h [ inl rows ↦ no_mark _ text _ t.rows rows | inr pieces ↦ no_mark _ text _ t.pieces pieces ]
+  within_done status.Spent text h = absurd (ends h.removed.removes)
+  within_done status.Read text h = absurd h
+  within_done status.Write text h = absurd h
+  within_done status.Memory text h = absurd h
+
+-- ---- a plant that is not settled, where no text tells of a solution
 module _ (tells : List ℕ → Type 0) (a : PlainPlant) (n : ℕ) (t : IsUnsettled a n) (untold : (text : List ℕ) → tells text → ⊥) where
   no_limit : {P : Type 0} (limit text : List ℕ) (mark : Marked (Unit {0}) → Bool) → ((i : ℕ) → i ≤ n → mark (work a n i) ≡ false) → IsStopped a n limit mark text → P
   no_limit limit text mark unmarked h = false_true (sym (unmarked h.round h.stop.within) ∙ h.stop.marked)
@@ -59,12 +79,9 @@ module _ (tells : List ℕ → Type 0) (a : PlainPlant) (n : ℕ) (t : IsUnsettl
   unsettled_spent status.Write text h = absurd h
   unsettled_spent status.Memory text h = absurd h
 
--- neither a report nor a summary tells of one
+-- no report tells of one
 no_report : (a : PlainPlant) (n : ℕ) → IsUnsettled a n → (text : List ℕ) → IsReport a n text → ⊥
 no_report a n t text h = (outcome_laws a n).not_solved h.controller h.rounds h.losses h.solves t.removes
-
-no_summary : (k : ℕ) → IsUnsettled (generated_plant k) most_rounds → (text : List ℕ) → IsSummary k text → ⊥
-no_summary k t text h = (outcome_laws (generated_plant k) most_rounds).not_solved h.controller h.rounds h.losses h.solves t.removes
 
 -- ---- an input
 -- a plant is not refused as a text
@@ -122,14 +139,8 @@ module _ (words : List (List ℕ)) (P Q : Type 0) (s : Status) (text : List ℕ)
 
 -- ---- a generated plant
 module _ (words : List (List ℕ)) (input : Option (List ℕ)) (s : Status) (text : List ℕ) (h : IsAnswer words input s text) (k : ℕ) (asked : AsksGen words k) where
-  abbrev its : IsGenAnswer k s text
-  its = its_answer words input s text (Gen k) asked h
-
-  pub generated : IsSettled (generated_plant k) most_rounds → (s ≡ status.Done) ⊎ (s ≡ status.Memory)
-  generated t = settled_done (IsSummary k) (generated_plant k) most_rounds its.proper t s text its.answer
-
-  pub generated_used_up : IsUnsettled (generated_plant k) most_rounds → (s ≡ status.Spent) ⊎ (s ≡ status.Memory)
-  generated_used_up t = unsettled_spent (IsSummary k) (generated_plant k) most_rounds t (no_summary k t) s text its.answer
+  pub generated : IsWithin (generated_plant k) most_rounds → (s ≡ status.Done) ⊎ (s ≡ status.Memory)
+  generated t = within_done (IsSummary k) (generated_plant k) most_rounds t (λ removes. settles k asked.1 removes) s text (its_answer words input s text (Gen k) asked h)
 
 -- for it nothing is read
 pub gen_unread : (words : List (List ℕ)) (k : ℕ) → AsksGen words k → ¬ AskForInput words

@@ -6,7 +6,6 @@ use Rattle.lhg_num.specs.FracArithmetic.{frac_arithmetic}
 use Rattle.lhg_row.specs.Lists.{meet_lists}
 use Rattle.lhg_plant.specs.BackCalculus.{kept_side, back_by, guard_by, guards}
 use Rattle.lhg_plant.specs.Invariants.{pieces_at, invariants}
-use Rattle.lhg_plant.specs.Legal.{HasSide}
 use Rattle.lhg_plant.specs.Loss.{PlainLoss}
 use Rattle.lhg_plant.specs.OutCalculus.{away}
 use Rattle.lhg_plant.specs.Plant.{PlainPlant, PlainSwitch}

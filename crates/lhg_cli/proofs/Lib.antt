@@ -1,5 +1,6 @@
 pub mod AnswerSteps
 pub mod Complete
+pub mod GeneratedGame
 pub mod GuardSteps
 pub mod PieceCounts
 pub mod Placed

@@ -6,7 +6,7 @@ use Rattle.lhg_math.specs.Tests.{AllOf}
 use Rattle.lhg_num.specs.FracArithmetic.{frac_arithmetic}
 use Rattle.lhg_row.specs.PieceFacts.{IsPoly}
 use Rattle.lhg_plant.specs.Plant.{PlainPlant}
-use Rattle.lhg_plant.specs.State.{PlainState, States, IsState, IsSafe}
+use Rattle.lhg_plant.specs.State.{PlainState, States, IsState}
 use Rattle.lhg_plant.specs.Round.{InRound}
 use Rattle.lhg_plant.specs.Loss.{PlainLoss, PlainCause, by_env, by_leave, by_flow}
 use Rattle.lhg_plant.specs.Sound.{IsSoundLoss, Shows}

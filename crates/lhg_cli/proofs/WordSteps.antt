@@ -3,7 +3,6 @@ use Rattle.std.proofs.Common.{◌≡◌, ◌≢◌, ◌<◌, ◌≤◌, ◌^◌,
 use Rattle.std.specs.Prelude.{codes, decimal}
 use Rattle.std.specs.Str.Parse.{digits_value, ParsesUnsigned}
 use Rattle.std.proofs.lemmas.Fmt.{decimal_is_IsNumeral, parse-decimal}
-use Rattle.lhg_gen.specs.Sizes.{IsSize}
 use Rattle.lhg_cli.specs.Words.{AsksSynth, AsksGen, Asks, most_rounds}
 use Rattle.lhg_cli.specs.declared.request.Request.{Request}
 use Rattle.lhg_cli.specs.declared.request.Request.TheVariants.{Synth, Gen}

@@ -4,7 +4,6 @@ use Rattle.std.specs.List.{flat_map, sum_by}
 use Rattle.lhg_row.specs.Piece.{PlainPiece}
 use Rattle.lhg_plant.specs.Controller.{PlainController}
 use Rattle.lhg_plant.specs.Loss.{PlainLoss}
-use Rattle.lhg_plant.specs.Proper.{IsProper}
 use Rattle.lhg_plant.specs.Region.{PlainRegion, PlainGuards}
 use Rattle.lhg_loss.specs.Iterate.{solution, solved}
 use Rattle.lhg_loss.specs.StageFacts.{IsSolved}
@@ -37,7 +36,6 @@ pub record IsSummary (k : ℕ) (text : List ℕ) : Type 0 where
   pub solves : IsSolved (generated_plant k) most_rounds controller rounds losses
   pub calculus : solution (generated_plant k) most_rounds ≡ solved rounds controller.region controller.guards losses
 
--- the generated plant is as it should be, with this answer within the most rounds
-pub record IsGenAnswer (k : ℕ) (s : Status) (text : List ℕ) : Type 0 where
-  pub proper : IsProper (generated_plant k)
-  pub answer : IsOutcome (IsSummary k) (generated_plant k) most_rounds s text
+-- the text that stands for the status where a generated plant is asked for
+abbrev pub IsGenAnswer : ℕ → Status → List ℕ → Type 0
+IsGenAnswer k s text = IsOutcome (IsSummary k) (generated_plant k) most_rounds s text

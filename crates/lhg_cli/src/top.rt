@@ -4,7 +4,7 @@ ghost use Rattle.std.specs.Io.KnownBytes.{Appends};
 ghost use Rattle.lhg_io.specs.Faults.{Rose};
 ghost use Rattle.lhg_gen.specs.GeneratedPlant.{generated_plant};
 ghost use Rattle.lhg_cli.specs.Answer.{IsAnswer, IsReadToEnd, IsAnswered, IsPlantInput, IsSolvable, IsUsedUp};
-ghost use Rattle.lhg_cli.specs.Settling.{IsSettled, IsUnsettled};
+ghost use Rattle.lhg_cli.specs.Settling.{IsWithin};
 ghost use Rattle.lhg_cli.specs.Words.{AsksSynth, AsksGen, AreKnown, AskForInput, most_rounds};
 
 use crate::Status;
@@ -77,11 +77,9 @@ pub fn lhg<S: Source, K: Sink>(
         → ¬ Rose (S.faults source.old) (S.faults source.new) → ¬ Rose (K.faults sink.old) (K.faults sink.new) → (result ≡ Status.Spent) ⊎ (result ≡ Status.Memory)) }
     ensures refused { AskForInput (map (λ w. string_bytes w) words.now) → IfSome (S.left source.old) (λ bytes. ¬ IsPlantInput bytes
         → ¬ Rose (S.faults source.old) (S.faults source.new) → ¬ Rose (K.faults sink.old) (K.faults sink.new) → (result ≡ Status.Text) ⊎ (result ≡ Status.Memory)) }
-    // where the sink does not fail, a generated plant has its summary, or a state of the last round, in the same way
-    ensures generated { (k : ℕ) → AsksGen (map (λ w. string_bytes w) words.now) k → IsSettled (generated_plant k) most_rounds
+    // where the sink does not fail, a generated plant has its summary, where the calculus stays within its limits; unless memory runs out
+    ensures generated { (k : ℕ) → AsksGen (map (λ w. string_bytes w) words.now) k → IsWithin (generated_plant k) most_rounds
         → ¬ Rose (K.faults sink.old) (K.faults sink.new) → (result ≡ Status.Done) ⊎ (result ≡ Status.Memory) }
-    ensures generated_used_up { (k : ℕ) → AsksGen (map (λ w. string_bytes w) words.now) k → IsUnsettled (generated_plant k) most_rounds
-        → ¬ Rose (K.faults sink.old) (K.faults sink.new) → (result ≡ Status.Spent) ⊎ (result ≡ Status.Memory) }
 {
     match answer_to(alloc, words, source) {
         Ok(found) => match write_all(sink, found.text.as_slice()) {

@@ -1,4 +1,4 @@
-use Rattle.std.proofs.Common.{◌≡◌, length, ap, arith}
+use Rattle.std.proofs.Common.{length, ap, arith}
 use Rattle.std.specs.Global.{Vec}
 use Rattle.lhg_row.specs.System.{PlainSystem}
 use Rattle.lhg_cli.proofs.PieceCounts.{one_more}

@@ -1,4 +1,4 @@
-use Rattle.std.proofs.Common.{rules, sym, ◌∙◌, ap, arith}
+use Rattle.std.proofs.Common.{rules, arith}
 use Rattle.lhg_cli.proofs.WordSteps.{read_same, read_some}
 use Rattle.lhg_cli.proofs.words.number_up_to.Goals as goal
 use Rattle.lhg_cli.proofs.words.number_up_to.Goals.{then-n-eq0-via-then-n-eq0, then-n-eq0-via-else-n-eq0+then-n-most, then-n-eq0-via-else-n-eq0+else-n-most+then-ne}
