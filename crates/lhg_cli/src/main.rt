@@ -4,6 +4,8 @@
 mod answers;
 mod input;
 #[cfg(test)]
+mod limit_tests;
+#[cfg(test)]
 mod region_tests;
 mod request;
 mod solving;

@@ -8,9 +8,9 @@ const PLAIN: &[u8] = b"lhg 1\nvars x\nloc only\ninv 0 <= x <= 8\nflow still\nsaf
 
 const USAGE: &[u8] = b"usage: lhg synth [N] | check | run | explain [N] | gen K\n";
 
-const SYNTH: &[&str] = &["synth"];
+pub const SYNTH: &[&str] = &["synth"];
 
-const NEVER: u32 = 9_999;
+pub const NEVER: u32 = 9_999;
 
 fn all_words(alloc: Global, words: &[&str]) -> Result<Vec<String>, AllocError> {
     let mut all = Vec::new(alloc);
@@ -21,7 +21,7 @@ fn all_words(alloc: Global, words: &[&str]) -> Result<Vec<String>, AllocError> {
 }
 
 // The status and what is written, where the call of the source and that of the sink with these numbers fail.
-fn run(
+pub fn run(
     alloc: Global,
     words: &[&str],
     input: &[u8],
@@ -32,7 +32,7 @@ fn run(
     let read_fails = [read_fails].to_vec(alloc)?;
     let write_fails = [write_fails].to_vec(alloc)?;
     let mut source = MemSource::new(input.to_vec(alloc)?, 4096, read_fails);
-    let mut sink = MemSink::new(alloc, 4096, 10, write_fails)?;
+    let mut sink = MemSink::new(alloc, 16_384, 10, write_fails)?;
     let status = lhg(alloc, &words, &mut source, &mut sink);
     Ok((status, sink.held().to_vec(alloc)?))
 }
