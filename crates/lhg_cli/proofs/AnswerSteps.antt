@@ -1,14 +1,23 @@
 -- What is an answer to a plant, to a source that may not tell its bytes, and to words?
-use Rattle.std.proofs.Common.{◌≡◌, ◌⊎◌, ℕ, List, Option, Some, None, IfSome, Result, Ok, Err, IfOk, inl, inr, refl, ◌∙◌, subst}
+use Rattle.std.proofs.Common.{◌≡◌, ◌<◌, ◌⊎◌, ℕ, List, length, codes, Option, Some, None, IfSome, Result, Ok, Err, IfOk, inl, inr, refl, ◌∙◌, subst}
+use Rattle.lhg_lex.specs.Lines.{most_bytes}
 use Rattle.lhg_plant.specs.Plant.{PlainPlant}
 use Rattle.lhg_plant.specs.Proper.{IsProper}
+use Rattle.lhg_read.specs.PlantText.{IsSomePlantText}
+use Rattle.lhg_row_text.specs.PrintedLine.{line}
+use Rattle.lhg_input.specs.Inputs.{IsControllerInput}
 use Rattle.lhg_cli.specs.Answer.{IsAnswer, IsAnswerTo, IsInputAnswer, IsPlantInput, IsSynthAnswer}
 use Rattle.lhg_cli.specs.PlantAnswer.{IsOutcome, IsPlantAnswer, IsStopText}
 use Rattle.lhg_cli.specs.Refusal.{IsRefusal}
-use Rattle.lhg_cli.specs.Words.{Asks}
+use Rattle.lhg_cli.specs.InputAnswer.{IsBytesAnswer}
+use Rattle.lhg_cli.specs.Migration.{IsMigrated}
+use Rattle.lhg_cli.specs.Verdict.{IsChecked}
+use Rattle.lhg_cli.specs.Words.{Asks, NeedsInput}
 use Rattle.lhg_cli.specs.declared.request.Request.{Request}
+use Rattle.lhg_cli.specs.declared.request.Request.TheVariants.{Synth, Check, Migrate, Gen}
 use Rattle.lhg_cli.specs.declared.status.Status.{Status}
 use Rattle.lhg_cli.specs.declared.status.Status.TheVariants as status
+use Rattle.lhg_cli.proofs.InputSteps.{of_source, too_long_answer}
 use Rattle.lhg_cli.proofs.WordSteps.{one_request}
 
 -- what follows of the value of an answer
@@ -43,7 +52,7 @@ answers n bytes input proper status.Write text h = h
 answers n bytes input proper status.Memory text h = h
 
 -- an answer is a refusal or one to a plant
-pub answer_is : (n : ℕ) (bytes : List ℕ) (s : Status) (text : List ℕ) → IsSynthAnswer n (Some bytes) s text → ((s ≡ status.Text) × IsRefusal bytes text) ⊎ IsInputAnswer n bytes s text
+pub answer_is : (n : ℕ) (bytes : List ℕ) (s : Status) (text : List ℕ) → IsSynthAnswer n (Some bytes) s text → ((s ≡ status.Text) × IsRefusal IsSomePlantText bytes text) ⊎ IsInputAnswer n bytes s text
 answer_is n bytes status.Done text h = inr h
 answer_is n bytes status.No text h = absurd h
 answer_is n bytes status.Words text h = absurd h
@@ -56,7 +65,7 @@ answer_is n bytes status.Write text h = absurd h
 answer_is n bytes status.Memory text h = absurd h
 
 -- the bytes that were read are those that the source tells, where it tells them
-pub told : (n : ℕ) (input : Option (List ℕ)) (bytes read : List ℕ) (s : Status) (text : List ℕ) → IfSome input (λ left. read ≡ left) → bytes ≡ read → IsSynthAnswer n (Some bytes) s text
+told : (n : ℕ) (input : Option (List ℕ)) (bytes read : List ℕ) (s : Status) (text : List ℕ) → IfSome input (λ left. read ≡ left) → bytes ≡ read → IsSynthAnswer n (Some bytes) s text
     → IsSynthAnswer n input s text
 told n (Some left) bytes read s text same e h = subst (λ bs. IsSynthAnswer n (Some bs) s text) (e ∙ same) h
 told n None bytes read status.Done text same e h = tt
@@ -69,6 +78,31 @@ told n None bytes read status.Spent text same e h = tt
 told n None bytes read status.Read text same e h = h
 told n None bytes read status.Write text same e h = h
 told n None bytes read status.Memory text same e h = h
+
+-- an answer to bytes
+abbrev CheckAnswered : Status → List ℕ → List ℕ → Type 0
+CheckAnswered s text bytes = IsBytesAnswer IsControllerInput IsChecked bytes s text
+
+abbrev MigrateAnswered : Status → List ℕ → List ℕ → Type 0
+MigrateAnswered s text bytes = IsBytesAnswer IsControllerInput IsMigrated bytes s text
+
+pub told_for : (r : Request) → NeedsInput r → (input : Option (List ℕ)) (bytes read : List ℕ) (s : Status) (text : List ℕ) → IfSome input (λ left. read ≡ left) → bytes ≡ read → IsAnswerTo r (Some bytes) s text
+    → IsAnswerTo r input s text
+told_for (Synth n) needs input bytes read s text same e h = told n input bytes read s text same e h
+told_for Check needs input bytes read s text same e h = of_source (CheckAnswered s text) input bytes read same e h
+told_for Migrate needs input bytes read s text same e h = of_source (MigrateAnswered s text) input bytes read same e h
+told_for (Gen k) needs input bytes read s text same e h = absurd needs
+
+-- an input that is too long is refused
+synth_too_long : (n : ℕ) (input : Option (List ℕ)) (text : List ℕ) → text ≡ line (codes "text line 0 TooLong") → IfSome input (λ left. most_bytes < length left) → IsSynthAnswer n input status.Text text
+synth_too_long n None text e h = tt
+synth_too_long n (Some left) text e h = inl (record { long = h; printed = e })
+
+pub too_long_for : (r : Request) → NeedsInput r → (input : Option (List ℕ)) (text : List ℕ) → text ≡ line (codes "text line 0 TooLong") → IfSome input (λ left. most_bytes < length left) → IsAnswerTo r input status.Text text
+too_long_for (Synth n) needs input text e h = synth_too_long n input text e h
+too_long_for Check needs input text e h = too_long_answer (CheckAnswered status.Text text) (λ bytes long. inl (refl, inl (record { long = long; printed = e }))) input h
+too_long_for Migrate needs input text e h = too_long_answer (MigrateAnswered status.Text text) (λ bytes long. inl (refl, inl (record { long = long; printed = e }))) input h
+too_long_for (Gen k) needs input text e h = absurd needs
 
 -- the answer to words is one to what they ask for
 pub its_answer : (words : List (List ℕ)) (input : Option (List ℕ)) (s : Status) (text : List ℕ) (r : Request) → Asks words r → IsAnswer words input s text → IsAnswerTo r input s text

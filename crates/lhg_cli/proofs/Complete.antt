@@ -1,6 +1,6 @@
 -- A plant whose outcome is determined has that answer, and any other input is refused.
-use Rattle.std.proofs.Common.{◌≡◌, ◌<◌, ◌≤◌, ℕ, Bool, false, List, Option, Some, None, IfSome, ◌⊎◌, inl, inr, arith, refl, sym, ◌∙◌, subst}
-use Rattle.lhg_lex.proofs.FirstBadProofs.{none_bad}
+use Rattle.std.proofs.Common.{◌≡◌, ◌<◌, ◌≤◌, ℕ, Bool, false, List, Option, Some, None, IfSome, ◌⊎◌, inl, inr, refl, sym, ◌∙◌, subst}
+use Rattle.lhg_lex.specs.Lines.{lines_of}
 use Rattle.lhg_math.specs.Tests.{false_true}
 use Rattle.lhg_num.specs.Marked.{Marked}
 use Rattle.lhg_plant.specs.Plant.{PlainPlant}
@@ -13,19 +13,26 @@ use Rattle.lhg_loss.specs.StageFacts.{RemovesSome}
 use Rattle.lhg_loss.proofs.LastRounds.{last_law}
 use Rattle.lhg_loss.proofs.Seeking.{outcome_laws}
 use Rattle.lhg_gen.specs.GeneratedPlant.{generated_plant}
-use Rattle.lhg_cli.specs.Answer.{IsAnswer, IsInputAnswer, IsPlantInput, IsSynthAnswer, IsSolvable, IsUsedUp}
+use Rattle.lhg_input.specs.Inputs.{IsControllerInput}
+use Rattle.lhg_input.proofs.Wholes.{controllers_one}
+use Rattle.lhg_cli.specs.Answer.{IsAnswer, IsAnswerTo, IsInputAnswer, IsPlantInput, IsSynthAnswer, IsTextFor, IsSolvable, IsUsedUp}
+use Rattle.lhg_cli.specs.InputAnswer.{IsInput}
+use Rattle.lhg_cli.specs.Migration.{IsMigrated}
 use Rattle.lhg_cli.specs.PlantAnswer.{IsOutcome, IsPlantAnswer, IsReport, IsStopped}
 use Rattle.lhg_cli.specs.Refusal.{IsRefusal}
 use Rattle.lhg_cli.specs.Settling.{IsWithin, IsSettled, IsUnsettled}
 use Rattle.lhg_cli.specs.Summary.{IsSummary}
-use Rattle.lhg_cli.specs.Words.{AsksSynth, AsksGen, AskForInput, most_rounds}
-use Rattle.lhg_cli.specs.declared.request.Request.TheVariants.{Synth, Gen}
+use Rattle.lhg_cli.specs.Verdict.{IsChecked, IsValidInput, IsInvalidInput}
+use Rattle.lhg_cli.specs.Words.{Asks, NeedsInput, AsksSynth, AsksGen, AskForInput, most_rounds}
+use Rattle.lhg_cli.specs.declared.request.Request.{Request}
+use Rattle.lhg_cli.specs.declared.request.Request.TheVariants.{Synth, Check, Migrate, Gen}
 use Rattle.lhg_cli.specs.declared.status.Status.{Status}
 use Rattle.lhg_cli.specs.declared.status.Status.TheVariants as status
 use Rattle.lhg_cli.proofs.AnswerSteps.{answer_is, its_answer}
 use Rattle.lhg_cli.proofs.GeneratedGame.{settles}
-use Rattle.lhg_cli.proofs.WholeInput.{some_text}
-use Rattle.lhg_cli.proofs.WordSteps.{not_both}
+use Rattle.lhg_cli.proofs.InputSteps.{not_refused, of_value, no_value, its_bytes}
+use Rattle.lhg_cli.proofs.VerdictSteps.{valid_done, invalid_no}
+use Rattle.lhg_cli.proofs.WordSteps.{one_request}
 
 -- ---- a plant that is settled within the budget
 module _ (tells : List ℕ → Type 0) (a : PlainPlant) (n : ℕ) (proper : IsProper a) (t : IsSettled a n) where
@@ -85,9 +92,8 @@ no_report a n t text h = (outcome_laws a n).not_solved h.controller h.rounds h.l
 
 -- ---- an input
 -- a plant is not refused as a text
-not_refused : (bytes text : List ℕ) → IsPlantInput bytes → ¬ IsRefusal bytes text
-not_refused bytes text t (inl long) = let l = long.long in let s = t.short in omega (arith, l, s)
-not_refused bytes text t (inr bad) = none_bad IsSomePlantText _ bad.number (some_text t.plant t.reads) bad.bad.first
+plant_not_refused : (bytes text : List ℕ) → IsPlantInput bytes → ¬ IsRefusal IsSomePlantText bytes text
+plant_not_refused bytes text t = not_refused IsSomePlantText bytes text t.short (record { tokens = t.reads.tokens; are = t.reads.are; is = (t.plant, t.reads.is) })
 
 -- an answer to an input is one to the plant that it is
 of_plant : (n : ℕ) (bytes : List ℕ) (t : IsPlantInput bytes) (s : Status) (text : List ℕ) → IsInputAnswer n bytes s text → IsProper t.plant × IsPlantAnswer t.plant n s text
@@ -99,14 +105,14 @@ module _ (n : ℕ) (bytes : List ℕ) (s : Status) (text : List ℕ) (h : IsSynt
   solvable_done : IsSolvable bytes n → (s ≡ status.Done) ⊎ (s ≡ status.Memory)
   solvable_done t =
       elim (answer_is n bytes s text h) [
-        | inl r ↦ absurd (not_refused bytes text t.input r.1)
+        | inl r ↦ absurd (plant_not_refused bytes text t.input r.1)
         | inr a ↦ let p = of_plant n bytes t.input s text a in settled_done (IsReport t.input.plant n) t.input.plant n p.0 t.settled s text p.1
       ]
 
   used_up_spent : IsUsedUp bytes n → (s ≡ status.Spent) ⊎ (s ≡ status.Memory)
   used_up_spent t =
       elim (answer_is n bytes s text h) [
-        | inl r ↦ absurd (not_refused bytes text t.input r.1)
+        | inl r ↦ absurd (plant_not_refused bytes text t.input r.1)
         | inr a ↦
             let p = of_plant n bytes t.input s text a in
             unsettled_spent (IsReport t.input.plant n) t.input.plant n t.unsettled (no_report t.input.plant n t.unsettled) s text p.1
@@ -127,15 +133,37 @@ module _ (words : List (List ℕ)) (P Q : Type 0) (s : Status) (text : List ℕ)
   used_up None h n asked = tt
   used_up (Some bytes) h n asked = λ t p q. used_up_spent n bytes s text (its_answer words (Some bytes) s text (Synth n) asked h) t
 
-  refused_by : (input : Option (List ℕ)) → IsAnswer words input s text → (n : ℕ) → AsksSynth words n
-      → IfSome input (λ bytes. ¬ IsPlantInput bytes → P → Q → (s ≡ status.Text) ⊎ (s ≡ status.Memory))
-  refused_by None h n asked = tt
-  refused_by (Some bytes) h n asked = λ t p q. other_refused n bytes s text (its_answer words (Some bytes) s text (Synth n) asked h) t
+  -- an input that is no text of what is asked for
+  not_text : (bytes : List ℕ) (r : Request) → IsAnswerTo r (Some bytes) s text → ¬ IsTextFor r bytes → (s ≡ status.Text) ⊎ (s ≡ status.Memory)
+  not_text bytes (Synth n) h t = other_refused n bytes s text h t
+  not_text bytes Check h t = inl (no_value IsControllerInput IsChecked bytes s text t (its_bytes IsControllerInput IsChecked bytes s text h))
+  not_text bytes Migrate h t = inl (no_value IsControllerInput IsMigrated bytes s text t (its_bytes IsControllerInput IsMigrated bytes s text h))
+  not_text bytes (Gen k) h t = absurd (t tt)
 
-  pub refused : (input : Option (List ℕ)) → IsAnswer words input s text → AskForInput words
-      → IfSome input (λ bytes. ¬ IsPlantInput bytes → P → Q → (s ≡ status.Text) ⊎ (s ≡ status.Memory))
-  refused input h (Synth n, asked, needs) = refused_by input h n asked
-  refused input h (Gen k, asked, needs) = absurd needs
+  pub refused : (input : Option (List ℕ)) → IsAnswer words input s text → (r : Request) → Asks words r
+      → IfSome input (λ bytes. ¬ IsTextFor r bytes → P → Q → (s ≡ status.Text) ⊎ (s ≡ status.Memory))
+  refused None h r asked = tt
+  refused (Some bytes) h r asked = λ t p q. not_text bytes r (its_answer words (Some bytes) s text r asked h) t
+
+  -- what is checked is a controller that is written, and what is migrated too
+  checked : (bytes : List ℕ) → IsAnswer words (Some bytes) s text → Asks words Check → (input : IsInput IsControllerInput bytes) → IsChecked input.value s text
+  checked bytes h asked input = of_value IsControllerInput IsChecked bytes (controllers_one.one_value (lines_of bytes)) input s text (its_bytes IsControllerInput IsChecked bytes s text (its_answer words (Some bytes) s text Check asked h))
+
+  pub valid : (input : Option (List ℕ)) → IsAnswer words input s text → Asks words Check
+      → IfSome input (λ bytes. IsValidInput bytes → P → Q → (s ≡ status.Done) ⊎ (s ≡ status.Memory))
+  valid None h asked = tt
+  valid (Some bytes) h asked = λ t p q. inl (valid_done t.decided.input.value t.decided.limits t.holds s text (checked bytes h asked t.decided.input))
+
+  pub invalid : (input : Option (List ℕ)) → IsAnswer words input s text → Asks words Check
+      → IfSome input (λ bytes. IsInvalidInput bytes → P → Q → (s ≡ status.No) ⊎ (s ≡ status.Memory))
+  invalid None h asked = tt
+  invalid (Some bytes) h asked = λ t p q. inl (invalid_no t.decided.input.value t.decided.limits t.fails s text (checked bytes h asked t.decided.input))
+
+  pub migrated : (input : Option (List ℕ)) → IsAnswer words input s text → Asks words Migrate
+      → IfSome input (λ bytes. IsTextFor Migrate bytes → P → Q → (s ≡ status.Done) ⊎ (s ≡ status.Memory))
+  migrated None h asked = tt
+  migrated (Some bytes) h asked = λ t p q.
+      inl (of_value IsControllerInput IsMigrated bytes (controllers_one.one_value (lines_of bytes)) t s text (its_bytes IsControllerInput IsMigrated bytes s text (its_answer words (Some bytes) s text Migrate asked h))).0
 
 -- ---- a generated plant
 module _ (words : List (List ℕ)) (input : Option (List ℕ)) (s : Status) (text : List ℕ) (h : IsAnswer words input s text) (k : ℕ) (asked : AsksGen words k) where
@@ -144,5 +172,4 @@ module _ (words : List (List ℕ)) (input : Option (List ℕ)) (s : Status) (tex
 
 -- for it nothing is read
 pub gen_unread : (words : List (List ℕ)) (k : ℕ) → AsksGen words k → ¬ AskForInput words
-gen_unread words k asked (Synth n, h, needs) = not_both words n k h asked
-gen_unread words k asked (Gen j, h, needs) = needs
+gen_unread words k asked (r, h, needs) = subst NeedsInput (one_request words r (Gen k) h asked) needs

@@ -2,7 +2,8 @@ pub mod AnswerSteps
 pub mod Complete
 pub mod GeneratedGame
 pub mod GuardSteps
+pub mod InputSteps
 pub mod PieceCounts
 pub mod Placed
-pub mod WholeInput
+pub mod VerdictSteps
 pub mod WordSteps

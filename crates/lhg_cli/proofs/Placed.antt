@@ -16,7 +16,7 @@ use Rattle.lhg_loss.specs.declared.losses.Loss.{Loss}
 use Rattle.lhg_text.specs.ReportConditions.{IsPlacedCause, IsPlacedLoss}
 
 -- what is there has a place in the list
-there : {A : Type 0} (P : A → Type 0) (xs : List A) (k : ℕ) (x : Option A) → slice_get xs k ≡ x → IsSomeAnd x P → k < length xs
+pub there : {A : Type 0} (P : A → Type 0) (xs : List A) (k : ℕ) (x : Option A) → slice_get xs k ≡ x → IsSomeAnd x P → k < length xs
 there P xs k None e h = absurd h
 there P xs k (Some x) e h = slice_get_within xs k x e
 

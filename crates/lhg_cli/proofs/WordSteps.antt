@@ -1,11 +1,11 @@
 -- Words ask for one thing, and with which numbers they may.
-use Rattle.std.proofs.Common.{◌≡◌, ◌≢◌, ◌<◌, ◌≤◌, ◌^◌, ℕ, List, [], ◌∷◌, length, map, get_or, Option, Some, None, IfSome, Result, Ok, Err, inl, inr, ap, sym, ◌∙◌, arith}
+use Rattle.std.proofs.Common.{◌≡◌, ◌≢◌, ◌<◌, ◌≤◌, ◌^◌, ℕ, List, [], ◌∷◌, length, map, get_or, Option, Some, None, IfSome, Result, Ok, Err, inl, inr, refl, ap, sym, ◌∙◌, arith}
 use Rattle.std.specs.Prelude.{codes, decimal}
 use Rattle.std.specs.Str.Parse.{digits_value, ParsesUnsigned}
 use Rattle.std.proofs.lemmas.Fmt.{decimal_is_IsNumeral, parse-decimal}
-use Rattle.lhg_cli.specs.Words.{AsksSynth, AsksGen, Asks, most_rounds}
+use Rattle.lhg_cli.specs.Words.{AsksSynth, AsksGen, Asks, HasRounds, most_rounds}
 use Rattle.lhg_cli.specs.declared.request.Request.{Request}
-use Rattle.lhg_cli.specs.declared.request.Request.TheVariants.{Synth, Gen}
+use Rattle.lhg_cli.specs.declared.request.Request.TheVariants.{Synth, Check, Migrate, Gen}
 
 -- the second word, where there is one
 abbrev second : List (List ℕ) → List ℕ
@@ -35,45 +35,108 @@ abbrev first : List (List ℕ) → List ℕ
 first [] = []
 first (w ∷ ws) = w
 
--- a synthesis is no generated plant
-synth_not_gen : codes "synth" ≡ codes "gen" → ⊥
-synth_not_gen e = cc
+-- the first word of what is asked for
+abbrev word_of : Request → List ℕ
+word_of (Synth n) = codes "synth"
+word_of Check = codes "check"
+word_of Migrate = codes "migrate"
+word_of (Gen k) = codes "gen"
 
-pub not_both : (words : List (List ℕ)) (n k : ℕ) → AsksSynth words n → AsksGen words k → ⊥
-not_both words n k (inl h) g = synth_not_gen (ap first (sym h.0 ∙ g.0))
-not_both words n k (inr h) g = synth_not_gen (ap first (sym h.0 ∙ g.0))
+first_is : (words : List (List ℕ)) (r : Request) → Asks words r → first words ≡ word_of r
+first_is words (Synth n) (inl h) = ap first h.0
+first_is words (Synth n) (inr h) = ap first h.0
+first_is words Check h = ap first h
+first_is words Migrate h = ap first h
+first_is words (Gen k) h = ap first h.0
+
+-- nothing else is asked for by another word
+other : {P : Type 0} (words : List (List ℕ)) (q r : Request) → (word_of q ≡ word_of r → ⊥) → Asks words q → Asks words r → P
+other words q r differ h k = absurd (differ (sym (first_is words q h) ∙ first_is words r k))
+
+-- the first byte of a word
+abbrev byte : List ℕ → ℕ
+byte [] = 0
+byte (b ∷ bs) = b
+
+synth_not_check : codes "synth" ≡ codes "check" → ⊥
+synth_not_check e = let b : 115 ≡ 99 = ap byte e in omega (arith, b)
+
+synth_not_migrate : codes "synth" ≡ codes "migrate" → ⊥
+synth_not_migrate e = let b : 115 ≡ 109 = ap byte e in omega (arith, b)
+
+synth_not_gen : codes "synth" ≡ codes "gen" → ⊥
+synth_not_gen e = let b : 115 ≡ 103 = ap byte e in omega (arith, b)
+
+check_not_migrate : codes "check" ≡ codes "migrate" → ⊥
+check_not_migrate e = let b : 99 ≡ 109 = ap byte e in omega (arith, b)
+
+check_not_gen : codes "check" ≡ codes "gen" → ⊥
+check_not_gen e = let b : 99 ≡ 103 = ap byte e in omega (arith, b)
+
+migrate_not_gen : codes "migrate" ≡ codes "gen" → ⊥
+migrate_not_gen e = let b : 109 ≡ 103 = ap byte e in omega (arith, b)
 
 pub one_request : (words : List (List ℕ)) (q r : Request) → Asks words q → Asks words r → q ≡ r
 one_request words (Synth m) (Synth n) h k = ap Synth (one_budget words m n h k)
-one_request words (Synth n) (Gen k) h g = absurd (not_both words n k h g)
-one_request words (Gen k) (Synth n) g h = absurd (not_both words n k h g)
-one_request words (Gen j) (Gen k) g h = ap Gen (one_size words j k g h)
+one_request words Check Check h k = refl
+one_request words Migrate Migrate h k = refl
+one_request words (Gen j) (Gen k) h g = ap Gen (one_size words j k h g)
+one_request words (Synth n) Check h k = other words (Synth n) Check synth_not_check h k
+one_request words (Synth n) Migrate h k = other words (Synth n) Migrate synth_not_migrate h k
+one_request words (Synth n) (Gen k) h g = other words (Synth n) (Gen k) synth_not_gen h g
+one_request words Check (Synth n) h k = other words (Synth n) Check synth_not_check k h
+one_request words Check Migrate h k = other words Check Migrate check_not_migrate h k
+one_request words Check (Gen k) h g = other words Check (Gen k) check_not_gen h g
+one_request words Migrate (Synth n) h k = other words (Synth n) Migrate synth_not_migrate k h
+one_request words Migrate Check h k = other words Check Migrate check_not_migrate k h
+one_request words Migrate (Gen k) h g = other words Migrate (Gen k) migrate_not_gen h g
+one_request words (Gen k) (Synth n) g h = other words (Synth n) (Gen k) synth_not_gen h g
+one_request words (Gen k) Check g h = other words Check (Gen k) check_not_gen h g
+one_request words (Gen k) Migrate g h = other words Migrate (Gen k) migrate_not_gen h g
 
 -- ---- words that ask for nothing
+pub not_alone : (word : List ℕ) → word ≢ codes "synth" → word ≢ codes "check" → word ≢ codes "migrate" → (r : Request) → ¬ Asks (word ∷ []) r
+not_alone word s c m (Synth n) (inl h) = s (ap first h.0)
+not_alone word s c m (Synth n) (inr h) = one_not_two _ _ _ h.0
+not_alone word s c m Check h = c (ap first h)
+not_alone word s c m Migrate h = m (ap first h)
+not_alone word s c m (Gen k) g = one_not_two _ _ _ g.0
+
+-- two words ask for a synthesis or for a generated plant
+pub not_with_number : (word number : List ℕ) → (word ≡ codes "synth" → (n : ℕ) → 1 ≤ n → n ≤ most_rounds → number ≢ decimal n) → (word ≡ codes "gen" → (k : ℕ) → 1 ≤ k → k ≤ 64 → number ≢ decimal k)
+    → (r : Request) → ¬ Asks (word ∷ number ∷ []) r
+not_with_number word number s g (Synth n) (inl h) = one_not_two _ _ _ (sym h.0)
+not_with_number word number s g (Synth n) (inr h) = s (ap first h.0) n h.1 h.2 (ap second h.0)
+not_with_number word number s g Check h = one_not_two _ _ _ (sym h)
+not_with_number word number s g Migrate h = one_not_two _ _ _ (sym h)
+not_with_number word number s g (Gen k) h = g (ap first h.0) k h.1.some h.1.few (ap second h.0)
+
 pub not_with_rounds : (word number : List ℕ) → word ≡ codes "synth" → ((n : ℕ) → 1 ≤ n → n ≤ most_rounds → number ≢ decimal n) → (r : Request) → ¬ Asks (word ∷ number ∷ []) r
-not_with_rounds word number e none (Synth n) (inl h) = one_not_two _ _ _ (sym h.0)
-not_with_rounds word number e none (Synth n) (inr h) = none n h.1 h.2 (ap second h.0)
-not_with_rounds word number e none (Gen k) g = synth_not_gen (sym e ∙ ap first g.0)
+not_with_rounds word number e none = not_with_number word number (λ w. none) (λ w. absurd (synth_not_gen (sym e ∙ w)))
 
 pub not_with_size : (word number : List ℕ) → word ≡ codes "gen" → ((k : ℕ) → 1 ≤ k → k ≤ 64 → number ≢ decimal k) → (r : Request) → ¬ Asks (word ∷ number ∷ []) r
-not_with_size word number e none (Synth n) (inl h) = one_not_two _ _ _ (sym h.0)
-not_with_size word number e none (Synth n) (inr h) = synth_not_gen (sym (ap first h.0) ∙ e)
-not_with_size word number e none (Gen k) g = none k g.1.some g.1.few (ap second g.0)
+not_with_size word number e none = not_with_number word number (λ w. absurd (synth_not_gen (sym w ∙ e))) (λ w. none)
 
 pub not_with_word : (word number : List ℕ) → word ≢ codes "synth" → word ≢ codes "gen" → (r : Request) → ¬ Asks (word ∷ number ∷ []) r
-not_with_word word number s g (Synth n) (inl h) = one_not_two _ _ _ (sym h.0)
-not_with_word word number s g (Synth n) (inr h) = s (ap first h.0)
-not_with_word word number s g (Gen k) h = g (ap first h.0)
+not_with_word word number s g = not_with_number word number (λ w. absurd (s w)) (λ w. absurd (g w))
 
-pub not_asked : (words : List (List ℕ)) → words ≢ codes "synth" ∷ [] → length words ≢ 2 → (r : Request) → ¬ Asks words r
-not_asked words one two (Synth n) (inl h) = one h.0
+pub not_asked : (words : List (List ℕ)) → length words ≢ 1 → length words ≢ 2 → (r : Request) → ¬ Asks words r
+not_asked words one two (Synth n) (inl h) = one (ap length h.0)
 not_asked words one two (Synth n) (inr h) = two (ap length h.0)
+not_asked words one two Check h = one (ap length h)
+not_asked words one two Migrate h = one (ap length h)
 not_asked words one two (Gen k) g = two (ap length g.0)
 
 -- ---- within which bounds the budget is
 pub synth_within : (words : List (List ℕ)) (n : ℕ) → AsksSynth words n → (1 ≤ n) × (n ≤ most_rounds)
 synth_within words n (inl h) = let e = h.1 in (omega (arith, e), omega (arith, e))
 synth_within words n (inr h) = (h.1, h.2)
+
+pub asked_within : (words : List (List ℕ)) (r : Request) → Asks words r → HasRounds r
+asked_within words (Synth n) h = synth_within words n h
+asked_within words Check h = tt
+asked_within words Migrate h = tt
+asked_within words (Gen k) h = tt
 
 -- ---- a word that is read as a number
 -- the number of an answer, where it is one

@@ -4,20 +4,24 @@ use Rattle.std.specs.Io.KnownBytes.{IsAtEnd}
 use Rattle.lhg_lex.specs.Lines.{lines_of, most_bytes}
 use Rattle.lhg_plant.specs.Plant.{PlainPlant}
 use Rattle.lhg_plant.specs.Proper.{IsProper}
-use Rattle.lhg_read.specs.PlantText.{IsPlantText}
+use Rattle.lhg_read.specs.PlantText.{IsPlantText, IsSomePlantText}
 use Rattle.lhg_row_text.specs.PrintedLine.{line}
+use Rattle.lhg_input.specs.Inputs.{IsControllerInput}
+use Rattle.lhg_cli.specs.InputAnswer.{IsInput}
+use Rattle.lhg_cli.specs.Migration.{IsMigrateAnswer}
 use Rattle.lhg_cli.specs.PlantAnswer.{IsPlantAnswer}
 use Rattle.lhg_cli.specs.Refusal.{IsRefusal}
 use Rattle.lhg_cli.specs.Settling.{IsSettled, IsUnsettled}
 use Rattle.lhg_cli.specs.Summary.{IsGenAnswer}
+use Rattle.lhg_cli.specs.Verdict.{IsCheckAnswer}
 use Rattle.lhg_cli.specs.Words.{Asks, AreKnown}
 use Rattle.lhg_cli.specs.declared.request.Request.{Request}
-use Rattle.lhg_cli.specs.declared.request.Request.TheVariants.{Synth, Gen}
+use Rattle.lhg_cli.specs.declared.request.Request.TheVariants.{Synth, Check, Migrate, Gen}
 use Rattle.lhg_cli.specs.declared.status.Status.{Status}
 use Rattle.lhg_cli.specs.declared.status.Status.TheVariants as status
 
 abbrev pub usage_text : List ℕ
-usage_text = line (codes "usage: lhg synth [N] | check | run | explain [N] | gen K")
+usage_text = line (codes "usage: lhg synth [N] | check | run | explain [N] | gen K | migrate")
 
 -- the input is the text of a plant
 pub record IsPlantInput (bytes : List ℕ) : Type 0 where
@@ -36,7 +40,7 @@ abbrev pub IsSynthAnswer : ℕ → Option (List ℕ) → Status → List ℕ →
 IsSynthAnswer n input status.Done text = IfSome input (λ bytes. IsInputAnswer n bytes status.Done text)
 IsSynthAnswer n input status.No text = ⊥
 IsSynthAnswer n input status.Words text = ⊥
-IsSynthAnswer n input status.Text text = IfSome input (λ bytes. IsRefusal bytes text)
+IsSynthAnswer n input status.Text text = IfSome input (λ bytes. IsRefusal IsSomePlantText bytes text)
 IsSynthAnswer n input status.Wide text = IfSome input (λ bytes. IsInputAnswer n bytes status.Wide text)
 IsSynthAnswer n input status.Lists text = IfSome input (λ bytes. IsInputAnswer n bytes status.Lists text)
 IsSynthAnswer n input status.Spent text = IfSome input (λ bytes. IsInputAnswer n bytes status.Spent text)
@@ -47,6 +51,8 @@ IsSynthAnswer n input status.Memory text = ⊥
 -- the text that stands for the status of what is asked for
 abbrev pub IsAnswerTo : Request → Option (List ℕ) → Status → List ℕ → Type 0
 IsAnswerTo (Synth n) input s text = IsSynthAnswer n input s text
+IsAnswerTo Check input s text = IsCheckAnswer input s text
+IsAnswerTo Migrate input s text = IsMigrateAnswer input s text
 IsAnswerTo (Gen k) input s text = IsGenAnswer k s text
 
 -- the words ask for something that has this answer
@@ -71,6 +77,13 @@ IsAnswered status.Spent = Unit {0}
 IsAnswered status.Read = ⊥
 IsAnswered status.Write = ⊥
 IsAnswered status.Memory = ⊥
+
+-- the input is a text of what is asked for
+abbrev pub IsTextFor : Request → List ℕ → Type 0
+IsTextFor (Synth n) bytes = IsPlantInput bytes
+IsTextFor Check bytes = IsInput IsControllerInput bytes
+IsTextFor Migrate bytes = IsInput IsControllerInput bytes
+IsTextFor (Gen k) bytes = Unit {0}
 
 -- the input is the text of a plant that is settled within the budget
 pub record IsSolvable (bytes : List ℕ) (budget : ℕ) : Type 0 where

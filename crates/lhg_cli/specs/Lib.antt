@@ -1,7 +1,10 @@
 pub mod Answer
+pub mod InputAnswer
+pub mod Migration
 pub mod Numbers
 pub mod PlantAnswer
 pub mod Refusal
 pub mod Settling
 pub mod Summary
+pub mod Verdict
 pub mod Words

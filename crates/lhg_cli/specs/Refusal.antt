@@ -1,14 +1,12 @@
 -- When is an input refused as a text, and what does the answer say?
-use Rattle.std.specs.Prelude.{◌≡◌, ◌<◌, ◌≤◌, ◌-◌, ◌⊎◌, ℕ, List, ◌++◌, length, codes, decimal, slice_get}
-use Rattle.lhg_lex.specs.FirstBad.{IsFirstBad}
-use Rattle.lhg_lex.specs.Lines.{lines_of, most_bytes}
+use Rattle.std.specs.Prelude.{◌≡◌, ◌<◌, ◌≤◌, ◌⊎◌, ℕ, List, ◌++◌, length, codes, decimal}
+use Rattle.lhg_lex.specs.Lines.{most_bytes}
 use Rattle.lhg_lex.specs.declared.stops.ReadStop.{ReadStop}
 use Rattle.lhg_lex.specs.declared.stops.ReadStop.TheVariants.{Bad, Memory}
 use Rattle.lhg_lex.specs.declared.stops.What.{What}
 use Rattle.lhg_lex.specs.declared.stops.What.TheVariants.{BadByte, LongNumber, ZeroDenominator, NotHere}
-use Rattle.lhg_read.specs.PlantText.{IsSomePlantText}
-use Rattle.lhg_read.specs.TokenText.{fault_at}
 use Rattle.lhg_row_text.specs.PrintedLine.{line}
+use Rattle.lhg_input.specs.BadLine.{IsBadAt}
 
 -- the name of an error
 abbrev pub what_text : What → List ℕ
@@ -21,30 +19,25 @@ what_text NotHere = codes "NotHere"
 abbrev pub bad_line : ℕ → What → List ℕ
 bad_line number what = line (codes "text line " ++ decimal number ++ codes " " ++ what_text what)
 
--- the line with this number, counted from 1, is the first that cannot stand in the text of a plant, and this is its error
-pub record IsBadAt (bytes : List ℕ) (number : ℕ) (what : What) : Type 0 where
-  pub column : ℕ
-  pub first : IsFirstBad IsSomePlantText (lines_of bytes) number
-  pub fault : fault_at (slice_get (lines_of bytes) (number - 1)) ≡ record { column = column; what = what }
+-- the text names the line and the error at which a reader stops; for want of memory there is none
+abbrev pub TellsStop : ReadStop → List ℕ → Type 0
+TellsStop (Bad number column what) text = text ≡ bad_line number what
+TellsStop Memory text = ⊥
 
 -- the input is too long, and the answer says so
 pub record IsTooLong (bytes text : List ℕ) : Type 0 where
   pub long : most_bytes < length bytes
   pub printed : text ≡ line (codes "text line 0 TooLong")
 
--- the answer names the first line that cannot stand there, and its error
-pub record NamesBadLine (bytes text : List ℕ) : Type 0 where
+-- the answer names the first line that cannot stand in a text of the grammar, and its error
+pub record NamesBadLine (IsText : List (List ℕ) → Type 0) (bytes text : List ℕ) : Type 0 where
   pub short : length bytes ≤ most_bytes
   pub number : ℕ
+  pub column : ℕ
   pub what : What
-  pub bad : IsBadAt bytes number what
+  pub bad : IsBadAt IsText bytes number column what
   pub printed : text ≡ bad_line number what
 
 -- the input is too long, or it is no text of the grammar and the answer names its first bad line
-abbrev pub IsRefusal : List ℕ → List ℕ → Type 0
-IsRefusal bytes text = IsTooLong bytes text ⊎ NamesBadLine bytes text
-
--- the cause of a refusal of the reader; want of memory is free
-abbrev pub HasBadLine : List ℕ → ReadStop → Type 0
-HasBadLine bytes (Bad number column what) = IsBadAt bytes number what
-HasBadLine bytes Memory = Unit {0}
+abbrev pub IsRefusal : (List (List ℕ) → Type 0) → List ℕ → List ℕ → Type 0
+IsRefusal IsText bytes text = IsTooLong bytes text ⊎ NamesBadLine IsText bytes text

@@ -2,7 +2,7 @@
 use Rattle.std.specs.Prelude.{◌≡◌, ◌≤◌, ◌⊎◌, ℕ, List, [], ◌∷◌, codes, decimal}
 use Rattle.lhg_gen.specs.Sizes.{IsSize}
 use Rattle.lhg_cli.specs.declared.request.Request.{Request}
-use Rattle.lhg_cli.specs.declared.request.Request.TheVariants.{Synth, Gen}
+use Rattle.lhg_cli.specs.declared.request.Request.TheVariants.{Synth, Check, Migrate, Gen}
 
 -- the number of rounds where the words name none, and the largest that they may name
 abbrev pub usual_budget : ℕ
@@ -22,6 +22,8 @@ AsksGen words k = (words ≡ codes "gen" ∷ decimal k ∷ []) × IsSize k
 -- what the words ask for
 abbrev pub Asks : List (List ℕ) → Request → Type 0
 Asks words (Synth n) = AsksSynth words n
+Asks words Check = words ≡ codes "check" ∷ []
+Asks words Migrate = words ≡ codes "migrate" ∷ []
 Asks words (Gen k) = AsksGen words k
 
 -- the words are some that the program knows
@@ -31,8 +33,17 @@ AreKnown words = (r : Request) × Asks words r
 -- what is answered from the input
 abbrev pub NeedsInput : Request → Type 0
 NeedsInput (Synth n) = Unit {0}
+NeedsInput Check = Unit {0}
+NeedsInput Migrate = Unit {0}
 NeedsInput (Gen k) = ⊥
 
 -- the words ask for something that is answered from the input
 abbrev pub AskForInput : List (List ℕ) → Type 0
 AskForInput words = (r : Request) × Asks words r × NeedsInput r
+
+-- the number of rounds that is asked for is from 1 to the largest
+abbrev pub HasRounds : Request → Type 0
+HasRounds (Synth n) = (1 ≤ n) × (n ≤ most_rounds)
+HasRounds Check = Unit {0}
+HasRounds Migrate = Unit {0}
+HasRounds (Gen k) = Unit {0}

@@ -18,7 +18,7 @@ pub fn usage(alloc: Global) -> Result<Vec<u8>, AllocError>
 {
     Vec::from_slice(
         alloc,
-        b"usage: lhg synth [N] | check | run | explain [N] | gen K\n",
+        b"usage: lhg synth [N] | check | run | explain [N] | gen K | migrate\n",
     )
 }
 

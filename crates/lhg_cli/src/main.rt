@@ -2,7 +2,13 @@
 #![tactic(auto)]
 
 mod answers;
-mod input;
+mod checking;
+#[cfg(test)]
+mod controller_tests;
+mod inputs;
+mod judging;
+mod migrating;
+mod refusing;
 #[cfg(test)]
 mod limit_tests;
 #[cfg(test)]

@@ -5,6 +5,10 @@
 pub enum Request {
     /// A controller for the plant of the input, within so many rounds.
     Synth(u32),
+    /// Whether the controller of the input is valid for its plant.
+    Check,
+    /// The controller of the input, in the latest version of its text.
+    Migrate,
     /// A summary of the generated plant with so many locations.
     Gen(u32),
 }

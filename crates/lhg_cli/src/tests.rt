@@ -6,11 +6,11 @@ use std::test::Fail;
 
 const PLAIN: &[u8] = b"lhg 1\nvars x\nloc only\ninv 0 <= x <= 8\nflow still\nsafe x <= 8\nend\n";
 
-const USAGE: &[u8] = b"usage: lhg synth [N] | check | run | explain [N] | gen K\n";
+const USAGE: &[u8] = b"usage: lhg synth [N] | check | run | explain [N] | gen K | migrate\n";
 
-pub const SYNTH: &[&str] = &["synth"];
+pub(crate) const SYNTH: &[&str] = &["synth"];
 
-pub const NEVER: u32 = 9_999;
+pub(crate) const NEVER: u32 = 9_999;
 
 fn all_words(alloc: Global, words: &[&str]) -> Result<Vec<String>, AllocError> {
     let mut all = Vec::new(alloc);
@@ -21,7 +21,7 @@ fn all_words(alloc: Global, words: &[&str]) -> Result<Vec<String>, AllocError> {
 }
 
 // The status and what is written, where the call of the source and that of the sink with these numbers fail.
-pub fn run(
+pub(crate) fn run(
     alloc: Global,
     words: &[&str],
     input: &[u8],
@@ -38,7 +38,7 @@ pub fn run(
 }
 
 // What is asked of plants, with the answers.
-const PLANTS: [(&[&str], &[u8], Status, &[u8]); 28] = [
+pub(crate) const PLANTS: [(&[&str], &[u8], Status, &[u8]); 28] = [
     (
         &["synth"],
         b"lhg 1\nvars x\nloc only\ninv 0 <= x <= 8\nflow still\nsafe x <= 8\nend\n",
@@ -308,8 +308,12 @@ fn generated(rt: HostRuntime) -> Result<(), Fail> {
     Ok(())
 }
 
-const OTHER_WORDS: [&[&str]; 11] = [
+const OTHER_WORDS: [&[&str]; 15] = [
     &[],
+    &["check", "1"],
+    &["migrate", "2"],
+    &["check", "migrate"],
+    &["explains"],
     &["synth", "0"],
     &["synth", "01"],
     &["synth", "1001"],

@@ -3,16 +3,17 @@ ghost use Rattle.std.specs.Prelude.{◌≡◌, ◌<◌, ℕ, List, map, length, 
 ghost use Rattle.std.specs.Io.KnownBytes.{Appends};
 ghost use Rattle.lhg_io.specs.Faults.{Rose};
 ghost use Rattle.lhg_gen.specs.GeneratedPlant.{generated_plant};
-ghost use Rattle.lhg_cli.specs.Answer.{IsAnswer, IsReadToEnd, IsAnswered, IsPlantInput, IsSolvable, IsUsedUp};
+ghost use Rattle.lhg_cli.specs.Answer.{IsAnswer, IsReadToEnd, IsAnswered, IsTextFor, IsSolvable, IsUsedUp};
 ghost use Rattle.lhg_cli.specs.Settling.{IsWithin};
-ghost use Rattle.lhg_cli.specs.Words.{AsksSynth, AsksGen, AreKnown, AskForInput, most_rounds};
+ghost use Rattle.lhg_cli.specs.Verdict.{IsValidInput, IsInvalidInput};
+ghost use Rattle.lhg_cli.specs.Words.{Asks, AsksSynth, AsksGen, AreKnown, AskForInput, most_rounds};
 
 use crate::Status;
 use crate::answers::usage;
+use crate::inputs::answer_input;
 use crate::request::Request;
 use crate::solving::Answer;
 use crate::summing::summed;
-use crate::synthesis::synth;
 use crate::words::asked;
 use lhg_io::{Sink, Source, write_all};
 use std::alloc::Global;
@@ -34,11 +35,11 @@ fn answer_to<S: Source>(alloc: Global, words: &[String], source: &mut S) -> Resu
             }),
             Err(_) => Err(Status::Memory),
         },
-        Some(Request::Synth(rounds)) => synth(alloc, rounds, source),
         Some(Request::Gen(k)) => match summed(alloc, k) {
             Ok(found) => Ok(found),
             Err(_) => Err(Status::Memory),
         },
+        Some(request) => answer_input(alloc, request, source),
     }
 }
 
@@ -69,14 +70,22 @@ pub fn lhg<S: Source, K: Sink>(
     ensures ended { AskForInput (map (λ w. string_bytes w) words.now) → IsAnswered result → IsReadToEnd (S.left source.old) (S.left source.new) result }
 
     // where neither end fails: a plant has its report, where some round within the budget removes nothing and the calculus stays within
-    // its limits; it has a state of the last round, where each round within the budget removes a state; and an input that is no plant is
-    // refused; unless memory runs out
+    // its limits; it has a state of the last round, where each round within the budget removes a state; and an input that is no text of what
+    // is asked for is refused; unless memory runs out
     ensures complete { (n : ℕ) → AsksSynth (map (λ w. string_bytes w) words.now) n → IfSome (S.left source.old) (λ bytes. IsSolvable bytes n
         → ¬ Rose (S.faults source.old) (S.faults source.new) → ¬ Rose (K.faults sink.old) (K.faults sink.new) → (result ≡ Status.Done) ⊎ (result ≡ Status.Memory)) }
     ensures used_up { (n : ℕ) → AsksSynth (map (λ w. string_bytes w) words.now) n → IfSome (S.left source.old) (λ bytes. IsUsedUp bytes n
         → ¬ Rose (S.faults source.old) (S.faults source.new) → ¬ Rose (K.faults sink.old) (K.faults sink.new) → (result ≡ Status.Spent) ⊎ (result ≡ Status.Memory)) }
-    ensures refused { AskForInput (map (λ w. string_bytes w) words.now) → IfSome (S.left source.old) (λ bytes. ¬ IsPlantInput bytes
+    ensures refused { (r : Request) → Asks (map (λ w. string_bytes w) words.now) r → IfSome (S.left source.old) (λ bytes. ¬ IsTextFor r bytes
         → ¬ Rose (S.faults source.old) (S.faults source.new) → ¬ Rose (K.faults sink.old) (K.faults sink.new) → (result ≡ Status.Text) ⊎ (result ≡ Status.Memory)) }
+    // in the same way the answer to a controller is yes where it is valid and no where it is not, where the calculus stays within its limits;
+    // and each controller has its text of the latest version
+    ensures valid { Asks (map (λ w. string_bytes w) words.now) Request.Check → IfSome (S.left source.old) (λ bytes. IsValidInput bytes
+        → ¬ Rose (S.faults source.old) (S.faults source.new) → ¬ Rose (K.faults sink.old) (K.faults sink.new) → (result ≡ Status.Done) ⊎ (result ≡ Status.Memory)) }
+    ensures invalid { Asks (map (λ w. string_bytes w) words.now) Request.Check → IfSome (S.left source.old) (λ bytes. IsInvalidInput bytes
+        → ¬ Rose (S.faults source.old) (S.faults source.new) → ¬ Rose (K.faults sink.old) (K.faults sink.new) → (result ≡ Status.No) ⊎ (result ≡ Status.Memory)) }
+    ensures migrated { Asks (map (λ w. string_bytes w) words.now) Request.Migrate → IfSome (S.left source.old) (λ bytes. IsTextFor Request.Migrate bytes
+        → ¬ Rose (S.faults source.old) (S.faults source.new) → ¬ Rose (K.faults sink.old) (K.faults sink.new) → (result ≡ Status.Done) ⊎ (result ≡ Status.Memory)) }
     // where the sink does not fail, a generated plant has its summary, where the calculus stays within its limits; unless memory runs out
     ensures generated { (k : ℕ) → AsksGen (map (λ w. string_bytes w) words.now) k → IsWithin (generated_plant k) most_rounds
         → ¬ Rose (K.faults sink.old) (K.faults sink.new) → (result ≡ Status.Done) ⊎ (result ≡ Status.Memory) }

@@ -43,13 +43,29 @@ fn with_number(word: &str, number: &str) -> Option<Request>
     }
 }
 
+// What is asked for by a word alone.
+fn alone(word: &str) -> Option<Request>
+    ensures some { IfSome result (λ r. Asks (word.now ∷ []) r) }
+    ensures none { IsNone result → (r : Request) → ¬ Asks (word.now ∷ []) r }
+{
+    if word == "synth" {
+        Some(Request::Synth(USUAL_BUDGET))
+    } else if word == "check" {
+        Some(Request::Check)
+    } else if word == "migrate" {
+        Some(Request::Migrate)
+    } else {
+        None
+    }
+}
+
 /// What the words ask for, where they ask for something.
 pub fn asked(words: &[String]) -> Option<Request>
     ensures some { IfSome result (λ r. Asks (map (λ w. string_bytes w) words.now) r) }
     ensures none { IsNone result → (r : Request) → ¬ Asks (map (λ w. string_bytes w) words.now) r }
 {
     match words {
-        [word] if word.as_str() == "synth" => Some(Request::Synth(USUAL_BUDGET)),
+        [word] => alone(word.as_str()),
         [word, number] => with_number(word.as_str(), number.as_str()),
         _ => None,
     }

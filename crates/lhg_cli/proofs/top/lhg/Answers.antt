@@ -1,6 +1,8 @@
-use Rattle.lhg_cli.specs.Answer.{IsPlantInput, IsSolvable, IsUsedUp}
+use Rattle.lhg_cli.specs.Answer.{IsSolvable, IsTextFor, IsUsedUp}
+use Rattle.lhg_cli.specs.Verdict.{IsValidInput, IsInvalidInput}
+use Rattle.lhg_cli.specs.declared.request.Request.TheVariants.{Migrate}
 use Rattle.lhg_cli.proofs.AnswerSteps.{faulted}
-use Rattle.lhg_cli.proofs.Complete.{complete, used_up, refused, generated}
+use Rattle.lhg_cli.proofs.Complete.{complete, used_up, refused, valid, invalid, migrated, generated}
 use Rattle.lhg_cli.proofs.top.lhg.Goals as goal
 
 pub returns-in-Ok-write_all-clause-complete : goal.returns-in-Ok-write_all-clause-complete
@@ -11,6 +13,15 @@ returns-in-Ok-write_all-clause-used_up g c = used_up _ _ _ _ _ _ c.in-Ok.ensures
 
 pub returns-in-Ok-write_all-clause-refused : goal.returns-in-Ok-write_all-clause-refused
 returns-in-Ok-write_all-clause-refused g c = refused _ _ _ _ _ _ c.in-Ok.ensures.ok
+
+pub returns-in-Ok-write_all-clause-valid : goal.returns-in-Ok-write_all-clause-valid
+returns-in-Ok-write_all-clause-valid g c = valid _ _ _ _ _ _ c.in-Ok.ensures.ok
+
+pub returns-in-Ok-write_all-clause-invalid : goal.returns-in-Ok-write_all-clause-invalid
+returns-in-Ok-write_all-clause-invalid g c = invalid _ _ _ _ _ _ c.in-Ok.ensures.ok
+
+pub returns-in-Ok-write_all-clause-migrated : goal.returns-in-Ok-write_all-clause-migrated
+returns-in-Ok-write_all-clause-migrated g c = migrated _ _ _ _ _ _ c.in-Ok.ensures.ok
 
 pub returns-in-Ok-write_all-clause-generated : goal.returns-in-Ok-write_all-clause-generated
 returns-in-Ok-write_all-clause-generated g c = λ k asked within calm. generated _ _ _ _ c.in-Ok.ensures.ok k asked within
@@ -23,7 +34,16 @@ pub returns-in-Ok-clause-used_up : goal.returns-in-Ok-clause-used_up
 returns-in-Ok-clause-used_up g c = λ n asked. faulted _ _ (λ bytes. IsUsedUp bytes n) _ c.in-Err-write_all.ensures.fault
 
 pub returns-in-Ok-clause-refused : goal.returns-in-Ok-clause-refused
-returns-in-Ok-clause-refused g c = λ known. faulted _ _ (λ bytes. ¬ IsPlantInput bytes) _ c.in-Err-write_all.ensures.fault
+returns-in-Ok-clause-refused g c = λ r asked. faulted _ _ (λ bytes. ¬ IsTextFor r bytes) _ c.in-Err-write_all.ensures.fault
+
+pub returns-in-Ok-clause-valid : goal.returns-in-Ok-clause-valid
+returns-in-Ok-clause-valid g c = λ asked. faulted _ _ IsValidInput _ c.in-Err-write_all.ensures.fault
+
+pub returns-in-Ok-clause-invalid : goal.returns-in-Ok-clause-invalid
+returns-in-Ok-clause-invalid g c = λ asked. faulted _ _ IsInvalidInput _ c.in-Err-write_all.ensures.fault
+
+pub returns-in-Ok-clause-migrated : goal.returns-in-Ok-clause-migrated
+returns-in-Ok-clause-migrated g c = λ asked. faulted _ _ (λ bytes. IsTextFor Migrate bytes) _ c.in-Err-write_all.ensures.fault
 
 pub returns-in-Ok-clause-generated : goal.returns-in-Ok-clause-generated
 returns-in-Ok-clause-generated g c = λ k asked within calm. absurd (calm c.in-Err-write_all.ensures.fault)
