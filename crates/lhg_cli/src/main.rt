@@ -7,10 +7,10 @@ mod checking;
 mod controller_tests;
 mod inputs;
 mod judging;
-mod migrating;
-mod refusing;
 #[cfg(test)]
 mod limit_tests;
+mod migrating;
+mod refusing;
 #[cfg(test)]
 mod region_tests;
 mod request;
