@@ -12,6 +12,5 @@ pub mod Marks
 pub mod NearSteps
 pub mod PastSplit
 pub mod SafetySteps
-pub mod TestSteps
 pub mod VerdictSteps
 pub mod WorkedValid

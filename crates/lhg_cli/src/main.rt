@@ -10,6 +10,8 @@ mod explaining;
 mod game_tests;
 mod inputs;
 mod judging;
+#[cfg(test)]
+mod limit_tests;
 mod migrating;
 mod refusing;
 #[cfg(test)]

@@ -8,7 +8,7 @@ const PLAIN: &[u8] = b"lhg 1\nvars x\nloc only\ninv 0 <= x <= 8\nflow still\nsaf
 
 const USAGE: &[u8] = b"usage: lhg synth [N] | check | run | explain [N] | gen K | migrate\n";
 
-const SYNTH: &[&str] = &["synth"];
+pub(crate) const SYNTH: &[&str] = &["synth"];
 
 pub(crate) const NEVER: u32 = 9_999;
 
@@ -32,7 +32,7 @@ pub(crate) fn run(
     let read_fails = [read_fails].to_vec(alloc)?;
     let write_fails = [write_fails].to_vec(alloc)?;
     let mut source = MemSource::new(input.to_vec(alloc)?, 4096, read_fails);
-    let mut sink = MemSink::new(alloc, 4096, 10, write_fails)?;
+    let mut sink = MemSink::new(alloc, 16_384, 10, write_fails)?;
     let status = lhg(alloc, &words, &mut source, &mut sink);
     Ok((status, sink.held().to_vec(alloc)?))
 }

@@ -1,5 +1,6 @@
 pub mod CodeSteps
 pub mod Escapes
+pub mod Fitting
 pub mod FlowPoints
 pub mod FlowRows
 pub mod HeldRecords

@@ -28,13 +28,13 @@ use Rattle.lhg_explain.proofs.RecordSteps.{crosses, taken, taken-there, known-in
 
 -- ---- lists
 -- a member is at a place below the length
-there_below : {A : Type 0} (xs : List A) (k : ℕ) (x : A) → slice_get xs k ≡ Some x → k < length xs
+pub there_below : {A : Type 0} (xs : List A) (k : ℕ) (x : A) → slice_get xs k ≡ Some x → k < length xs
 there_below [] k x e = cc
 there_below (y ∷ xs) zero x e = omega arith
 there_below (y ∷ xs) (suc k) x e = let l = there_below xs k x e in omega arith
 
 -- the same of a member with a property
-some_below : {A : Type 0} (P : A → Type 0) (xs : List A) (k : ℕ) → IsSomeAnd (slice_get xs k) P → k < length xs
+pub some_below : {A : Type 0} (P : A → Type 0) (xs : List A) (k : ℕ) → IsSomeAnd (slice_get xs k) P → k < length xs
 some_below P [] k h = absurd h
 some_below P (y ∷ xs) zero h = omega arith
 some_below P (y ∷ xs) (suc k) h = let l = some_below P xs k h in omega arith

@@ -1,5 +1,5 @@
 -- When is a play, with a last switch or none, an explanation of why a state was lost?
-use Rattle.std.specs.Prelude.{◌≡◌, ℕ, suc, List, length, Option, Some, None, Contains}
+use Rattle.std.specs.Prelude.{◌≡◌, ◌<◌, ℕ, suc, List, length, Option, Some, None, Contains}
 use Rattle.lhg_math.specs.Tests.{AllOf}
 use Rattle.lhg_row.specs.Row.{PlainPoint}
 use Rattle.lhg_row.specs.Width.{AllWide}
@@ -14,7 +14,7 @@ use Rattle.lhg_plant.specs.Round.{InRound, IsRemovedIn}
 use Rattle.lhg_plant.specs.Loss.{PlainCause, by_env, by_leave, by_flow, PlainLoss, InLoss}
 use Rattle.lhg_plant.specs.Sound.{IsSoundLoss}
 use Rattle.lhg_loss.specs.StageFacts.{AreCounted}
-use Rattle.lhg_explain.specs.Explanation.{loss_at, PlainEscape, explanation}
+use Rattle.lhg_explain.specs.Explanation.{PlainWay, loss_at, PlainEscape, explanation}
 
 -- ---- records
 -- the pieces that a cause names are over n variables
@@ -59,6 +59,16 @@ pub record IsExplained (a : PlainPlant) (s : PlainState) (e : PlainEscape) : Typ
   pub number : e.round ≡ suc before
   pub escape : IsEscape a (InRound a before) (Back a (InRound a before)) s e.way.moves
   pub left : IsLeft a (InRound a before) (moved_to s (last_point s.at e.way.moves)) e.way.last
+
+-- the last switch and the location of its result are there, and the result has one coordinate per variable
+abbrev pub IsPlacedLast : PlainPlant → Option (ℕ × PlainState) → Type 0
+IsPlacedLast a None = Unit {0}
+IsPlacedLast a (Some last) = (last.0 < length a.switches) × (last.1.loc < length a.locs) × (length last.1.at ≡ length a.vars)
+
+-- each point of the way has one coordinate per variable, and its last switch is placed
+pub record FitsPlant (a : PlainPlant) (way : PlainWay) : Type 0 where
+  pub moves : AllOf (λ m. length m.to ≡ length a.vars) way.moves
+  pub last : IsPlacedLast a way.last
 
 -- records explain each state that they hold
 abbrev pub ExplainLaw : PlainPlant → List PlainLoss → Type 0

@@ -11,7 +11,7 @@ ghost use Rattle.lhg_loss.specs.StageFacts.{AreCounted};
 ghost use Rattle.lhg_loss.specs.Views.{plain_losses, AllHaveVars};
 ghost use Rattle.lhg_play.specs.Views.{plain_moves};
 ghost use Rattle.lhg_explain.specs.Explanation as calculus;
-ghost use Rattle.lhg_explain.specs.Explained.{AreRecords, IsHeldBy, IsExplained, state_in};
+ghost use Rattle.lhg_explain.specs.Explained.{AreRecords, IsHeldBy, IsExplained, FitsPlant, state_in};
 ghost use Rattle.lhg_explain.specs.Views.{plain_way, plain_escape};
 
 use crate::following::{Next, next_from};
@@ -41,6 +41,7 @@ pub fn explain(
     requires held { IsHeldBy (plain_plant plant.now) (plain_losses losses.now) number (plain_state state.now) }
     ensures calculus { IsHaltedByRows result (calculus.explanation (plain_plant plant.now) (plain_losses losses.now) number (plain_state state.now)) plain_escape }
     ensures escape { IfOk result (λ e. IsExplained (plain_plant plant.now) (plain_state state.now) (plain_escape e)) }
+    ensures fits { IfOk result (λ e. FitsPlant (plain_plant plant.now) (plain_escape e).way) }
 {
     law_explain();
     tell_losses(losses);

@@ -1,12 +1,12 @@
 -- Whether some safe line holds at a state is whether the state is safe.
-use Rattle.std.proofs.Common.{◌≡◌, ◌↔◌, ◌||◌, Bool, true, false, List, [], ◌∷◌, map, Option, Some, None, IsSomeAnd, slice_get, refl, sym, ap, ◌∙◌}
-use Rattle.lhg_math.specs.Tests.{AllOf, false_true}
+use Rattle.std.proofs.Common.{◌≡◌, ◌↔◌, ◌||◌, Bool, true, List, [], ◌∷◌, map, Option, Some, None, IsSomeAnd, slice_get, refl, sym, ap, ◌∙◌}
+use Rattle.lhg_math.specs.Tests.{false_true}
 use Rattle.lhg_num.specs.Arithmetic.{Arithmetic}
 use Rattle.lhg_num.specs.Marked.{Marked, and_then, valued}
 use Rattle.lhg_row.specs.Row.{PlainPoint}
 use Rattle.lhg_row.specs.MarkedTests.{marked_any}
 use Rattle.lhg_row.specs.PieceLemmas.{in_some_is}
-use Rattle.lhg_row.specs.Piece.{PlainPiece, InSome}
+use Rattle.lhg_row.specs.Piece.{InSome}
 use Rattle.lhg_row.specs.Truths.{some_truth, some_truth-value}
 use Rattle.lhg_plant.specs.LegalTruths.{told_of}
 use Rattle.lhg_plant.specs.Plant.{PlainPlant, PlainLocation}

@@ -1,24 +1,21 @@
 -- What the stages say of a state that is sought.
-use Rattle.std.proofs.Common.{◌≡◌, ◌<◌, ◌≤◌, ◌+◌, ℕ, zero, suc, Bool, true, false, cond, List, [], ◌∷◌, ◌++◌, length, Option, Some, None, Result, Ok, Err, refl, sym, ap, ◌∙◌, subst, inl, inr, arith, eq-eqb}
-use Rattle.std.specs.Prelude.{IfOk, IfErr, nat_eq, Contains}
+use Rattle.std.proofs.Common.{◌≡◌, ◌<◌, ◌≤◌, ℕ, suc, Bool, true, cond, None, Result, Ok, Err, sym, subst, arith, eq-eqb}
+use Rattle.std.specs.Prelude.{IfErr, nat_eq}
 use Rattle.std.specs.Result.{IsErrAnd}
 use Rattle.lhg_num.specs.Marked.{Marked, done, and_then, valued}
 use Rattle.lhg_num.specs.MarkedLaws.{IsPart, and_then-part, and_then-rest, rest_part, part_self}
 use Rattle.lhg_plant.specs.Plant.{PlainPlant}
 use Rattle.lhg_plant.specs.State.{PlainState, IsSafe}
-use Rattle.lhg_plant.specs.Round.{InRound, IsRemovedIn, IsLastRound}
-use Rattle.lhg_plant.specs.Loss.{PlainLoss}
-use Rattle.lhg_plant.specs.Views.{plain_state}
+use Rattle.lhg_plant.specs.Round.{InRound}
 use Rattle.lhg_plant.proofs.Rounds.{round_safe, rounds_shrink}
-use Rattle.lhg_loss.specs.Holding.{holding, IsFirstHolding}
-use Rattle.lhg_loss.specs.Iterate.{PlainStage, stage, none_lost, nothing, spent_state, spent, solution}
-use Rattle.lhg_loss.specs.LimitFacts.{IsComputed}
-use Rattle.lhg_loss.specs.StageFacts.{RemovesSome, IsSpent}
+use Rattle.lhg_loss.specs.Holding.{holding}
+use Rattle.lhg_loss.specs.Iterate.{PlainStage, stage, nothing, spent_state}
+use Rattle.lhg_loss.specs.StageFacts.{RemovesSome}
 use Rattle.lhg_iterate.specs.SeekWork.{IsUndecided, kept_work, seek_work}
 use Rattle.lhg_iterate.specs.Seeking.{IsSeekStopIn, IsSeekStopped}
 use Rattle.lhg_iterate.specs.Stops.{IsStageStopIn, IsStageStop, IsSampleStopIn, IsSpentStop}
 use Rattle.lhg_iterate.specs.declared.seeking.SeekStop.{SeekStop}
-use Rattle.lhg_iterate.specs.declared.seeking.SeekStop.TheVariants.{State, Stop}
+use Rattle.lhg_iterate.specs.declared.seeking.SeekStop.TheVariants.{Stop}
 use Rattle.lhg_iterate.specs.declared.stops.Stop.{Stop as Refusal}
 use Rattle.lhg_iterate.specs.declared.stops.Stop.TheVariants as stop
 

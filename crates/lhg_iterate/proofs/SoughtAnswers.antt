@@ -1,12 +1,10 @@
 -- The answers about one state exclude each other.
-use Rattle.std.proofs.Common.{◌≡◌, ◌<◌, ◌≤◌, ◌+◌, ℕ, zero, suc, List, inl, inr, sym, subst, arith}
-use Rattle.std.proofs.lemmas.Bool.{cases_lt}
+use Rattle.std.proofs.Common.{◌<◌, ℕ, zero, suc, List, arith}
 use Rattle.lhg_plant.specs.Plant.{PlainPlant}
 use Rattle.lhg_plant.specs.State.{PlainState}
 use Rattle.lhg_plant.specs.Loss.{PlainLoss}
 use Rattle.lhg_plant.specs.Round.{InRound, RemovesNothing}
 use Rattle.lhg_plant.proofs.Rounds.{round_safe, rounds_shrink, settled_stays}
-use Rattle.lhg_loss.specs.StageFacts.{IsSpent}
 use Rattle.lhg_loss.proofs.Seeking.{outcome_laws}
 use Rattle.lhg_iterate.specs.Seeking.{IsKept, IsLost}
 use Rattle.lhg_iterate.specs.SeekLaws.{SoughtLaws}

@@ -1,5 +1,5 @@
 -- Which marks are those of a stage, and which stops of the stages are stops of the iteration?
-use Rattle.std.proofs.Common.{◌≡◌, ◌≤◌, ◌<◌, ◌-◌, ℕ, zero, suc, Bool, true, false, Result, Ok, Err, refl, sym, subst, arith}
+use Rattle.std.proofs.Common.{◌≡◌, ◌≤◌, ◌<◌, ℕ, zero, suc, Bool, true, false, Result, Ok, Err, refl, sym, subst, arith}
 use Rattle.std.specs.Prelude.{IfErr, nat_eq, cond}
 use Rattle.std.specs.Result.{IsErrAnd}
 use Rattle.lhg_num.specs.Marked.{Marked, done, valued}
@@ -10,7 +10,6 @@ use Rattle.lhg_num.specs.declared.refusals.Halt.TheVariants as halt
 use Rattle.lhg_plant.specs.Plant.{PlainPlant}
 use Rattle.lhg_plant.specs.BackCalculus.{guards}
 use Rattle.lhg_plant.specs.SafeRegion.{safe_region}
-use Rattle.lhg_loss.specs.Records.{PlainRound}
 use Rattle.lhg_loss.specs.Iterate.{PlainStage, stage, next_round, after_round, counted_stage, none_lost, nothing, spent_state, work}
 use Rattle.lhg_loss.specs.LimitFacts.{IsComputed}
 use Rattle.lhg_loss.specs.WorkLaws.{IsStopIn}

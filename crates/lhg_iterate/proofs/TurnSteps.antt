@@ -1,15 +1,12 @@
 -- What one more round tells of a state that is sought.
-use Rattle.std.proofs.Common.{◌≡◌, ◌<◌, ◌≤◌, ◌+◌, ℕ, suc, true, List, [], ◌∷◌, ◌++◌, length, map, Option, Some, None, refl, sym, ap, ◌∙◌, subst, arith}
-use Rattle.std.specs.Prelude.{Contains}
-use Rattle.std.specs.Global.{Vec}
+use Rattle.std.proofs.Common.{◌≡◌, ◌<◌, ◌+◌, ℕ, suc, true, List, [], ◌∷◌, ◌++◌, length, map, Option, Some, None, refl, sym, ap, ◌∙◌, subst, arith}
 use Rattle.lhg_math.specs.Tests.{AllOf}
 use Rattle.lhg_row.specs.Piece.{PlainPiece}
 use Rattle.lhg_row.specs.Width.{AllWide}
 use Rattle.lhg_plant.specs.declared.plants.Plant.{Plant}
 use Rattle.lhg_plant.specs.Plant.{PlainPlant}
 use Rattle.lhg_plant.specs.Proper.{IsLine}
-use Rattle.lhg_plant.specs.State.{PlainState, IsSafe}
-use Rattle.lhg_plant.specs.Round.{InRound, IsRemovedIn, IsLastRound}
+use Rattle.lhg_plant.specs.State.{PlainState}
 use Rattle.lhg_plant.specs.Views.{plain_plant}
 use Rattle.lhg_loss.specs.declared.losses.Loss.{Loss}
 use Rattle.lhg_plant.specs.Loss.{PlainLoss}
@@ -22,7 +19,6 @@ use Rattle.lhg_loss.proofs.Works.{step_laws}
 use Rattle.lhg_iterate.specs.declared.rounds.Round.{Round}
 use Rattle.lhg_iterate.specs.declared.stages.Stage.{Stage}
 use Rattle.lhg_iterate.specs.RoundViews.{plain_round}
-use Rattle.lhg_iterate.specs.SeekWork.{IsUndecided}
 use Rattle.lhg_iterate.specs.Seeking.{IsKept, IsLost, IsWideRecord}
 use Rattle.lhg_iterate.specs.Stages.{plain_stage, IsAfter, IsRoundAfter}
 use Rattle.lhg_iterate.specs.Turns.{IsStillIn}

@@ -1,5 +1,5 @@
 -- What is formed to seek a state, and which round decides?
-use Rattle.std.specs.Prelude.{◌≡◌, ◌<◌, ℕ, Bool, cond, List, nat_eq, slice_get, Option, Some, None}
+use Rattle.std.specs.Prelude.{◌<◌, ℕ, Bool, cond, List, nat_eq, slice_get, Option, Some, None}
 use Rattle.lhg_num.specs.Arithmetic.{Arithmetic}
 use Rattle.lhg_num.specs.Marked.{Marked, done, and_then, valued}
 use Rattle.lhg_row.specs.Truths.{some_truth}

@@ -1,5 +1,5 @@
 -- What is kept from round to round while a state is sought, and what does one turn give?
-use Rattle.std.specs.Prelude.{◌≡◌, ◌+◌, ℕ, length, None}
+use Rattle.std.specs.Prelude.{◌≡◌, ℕ, length, None}
 use Rattle.lhg_plant.specs.declared.plants.Plant.{Plant}
 use Rattle.lhg_plant.specs.State.{PlainState}
 use Rattle.lhg_plant.specs.Round.{InRound}

@@ -1,8 +1,6 @@
 -- What a flow does that is stopped.
-use Rattle.std.proofs.Common.{◌≡◌, ◌⊎◌, inl, inr, ℕ, ◌<◌, List, [], ◌∷◌, ◌++◌, length, Option, Some, None, IsSomeAnd, slice_get, true, cond, refl, sym, ap, ◌∙◌, subst}
+use Rattle.std.proofs.Common.{◌≡◌, ◌⊎◌, inl, inr, ℕ, [], ◌∷◌, ◌++◌, Option, Some, IsSomeAnd, slice_get, true, cond, refl, ap, ◌∙◌, subst}
 use Rattle.lhg_math.specs.Number.{Number, mul, lt, nought}
-use Rattle.lhg_num.specs.FracArithmetic.{frac_arithmetic}
-use Rattle.lhg_num.specs.Marked.{marked_mul}
 use Rattle.lhg_row.specs.Row.{PlainPoint}
 use Rattle.lhg_motion.specs.Segment.{along}
 use Rattle.lhg_play.specs.Views.{plain_steps}
@@ -10,18 +8,18 @@ use Rattle.lhg_plant.specs.declared.plants.Side.{Side}
 use Rattle.lhg_plant.specs.declared.plants.Side.TheVariants.{Ctl, Env, Pick}
 use Rattle.lhg_plant.specs.Plant.{PlainPlant, PlainSwitch}
 use Rattle.lhg_plant.specs.State.{PlainState, moved_to}
-use Rattle.lhg_plant.specs.Legal.{HasSide, LegalFlow}
+use Rattle.lhg_plant.specs.Legal.{HasSide}
 use Rattle.lhg_plant.specs.OutBack.{StaysBy}
 use Rattle.lhg_plant.specs.Proper.{IsProper}
 use Rattle.lhg_plant.specs.Inside.{IsRegionInside}
 use Rattle.lhg_plant.specs.Pick.{picked_result}
 use Rattle.lhg_plant.specs.Region.{InRegion, InGuard}
 use Rattle.lhg_plant.specs.Controller.{PlainController, IsValid}
-use Rattle.lhg_plant.specs.Run.{PlainStep, flowed, switched, landed, RunPlace, resting, result_at, state_along, run_flow, StopsAt, StopsFlow, PicksFlow}
+use Rattle.lhg_plant.specs.Run.{flowed, switched, landed, result_at, state_along, run_flow, StopsAt, StopsFlow, PicksFlow}
 use Rattle.lhg_plant.proofs.Options.{find_some, there_some, some_there}
 use Rattle.lhg_plant.proofs.Picks.{picked_found}
 use Rattle.lhg_run.specs.Numbers.{HasWideStop, HasLongStop}
-use Rattle.lhg_run.specs.Seen.{MayTake, IsStopDone, IsWideStop, IsLongStop, IsPicked, steps_to, plain_done, pending_course, picked_course}
+use Rattle.lhg_run.specs.Seen.{MayTake, IsStopDone, IsWideStop, IsLongStop, IsPicked, steps_to}
 use Rattle.lhg_run.specs.Views.{plain_place}
 use Rattle.lhg_run.specs.declared.doing.Done.{Done}
 use Rattle.lhg_run.specs.declared.ways.Stop.{Stop}

@@ -1,6 +1,5 @@
 -- What an entry does that gives a result.
-use Rattle.std.proofs.Common.{◌≡◌, ◌<◌, ℕ, zero, suc, List, [], ◌∷◌, length, map, get_or, Option, Some, None, slice_get, refl, sym, ap, ◌∙◌, subst, arith}
-use Rattle.std.specs.Prelude.{IsTrue}
+use Rattle.std.proofs.Common.{◌≡◌, ◌<◌, ℕ, zero, suc, List, [], ◌∷◌, length, map, get_or, Option, Some, slice_get, refl, sym, ap, ◌∙◌, subst, arith}
 use Rattle.lhg_row.specs.Row.{PlainPoint}
 use Rattle.lhg_plant.specs.declared.plants.Side.TheVariants.{Env}
 use Rattle.lhg_plant.specs.declared.plants.Switch.{Switch}
@@ -8,10 +7,9 @@ use Rattle.lhg_plant.specs.Plant.{PlainPlant, PlainSwitch}
 use Rattle.lhg_plant.specs.State.{PlainState}
 use Rattle.lhg_plant.specs.Legal.{HasSide, LegalSwitch, LegalSwitchTo}
 use Rattle.lhg_plant.specs.Controller.{PlainController}
-use Rattle.lhg_plant.specs.Run.{PlainStep, landed, env_switched, RunPlace, resting, target_in, result_at, env_entry, land_entry}
+use Rattle.lhg_plant.specs.Run.{PlainStep, landed, env_switched, resting, target_in, result_at, env_entry, land_entry}
 use Rattle.lhg_plant.specs.Views.{plain_switch}
 use Rattle.lhg_run.specs.Seen.{Course, IsTaken, plain_done}
-use Rattle.lhg_run.specs.Views.{plain_place}
 use Rattle.lhg_run.specs.declared.doing.Done.{Done}
 
 -- the switch at a place

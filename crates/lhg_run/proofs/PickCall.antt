@@ -1,13 +1,10 @@
 -- What the controller does at its switch.
-use Rattle.std.proofs.Common.{◌≡◌, ◌⊎◌, inl, inr, ℕ, ◌<◌, List, [], ◌∷◌, ◌++◌, length, map, Option, Some, None, slice_get, get_or, refl, sym, ap, ◌∙◌, subst, append_assoc, arith}
+use Rattle.std.proofs.Common.{◌≡◌, inl, inr, ℕ, ◌<◌, List, [], ◌∷◌, ◌++◌, length, Option, Some, slice_get, get_or, refl, sym, ap, ◌∙◌, subst, append_assoc}
 use Rattle.std.proofs.lemmas.List.{map-append}
-use Rattle.std.specs.Global.{Vec}
 use Rattle.std.specs.Option.{IsSome}
 use Rattle.lhg_math.specs.Number.{Number, mul}
-use Rattle.lhg_num.specs.Marked.{Marked}
 use Rattle.lhg_row.specs.Piece.{PlainPiece}
 use Rattle.lhg_row.specs.Row.{PlainPoint}
-use Rattle.lhg_row.specs.System.{PlainSystem}
 use Rattle.lhg_play.specs.Views.{plain_step, plain_steps}
 use Rattle.lhg_play.specs.declared.traces.Step.{Step}
 use Rattle.lhg_play.specs.declared.traces.Step.TheVariants.{Switch, Land}
@@ -25,7 +22,7 @@ use Rattle.lhg_plant.specs.Run.{PlainStep, switched, landed, RunPlace, resting, 
 use Rattle.lhg_plant.specs.Views.{plain_state}
 use Rattle.lhg_plant.proofs.Options.{some_there, there_some}
 use Rattle.lhg_plant.proofs.Picks.{all_at}
-use Rattle.lhg_run.specs.Seen.{Course, MayTake, IsPicked, IsStopDone, steps_to, plain_done, pending_course, picked_course}
+use Rattle.lhg_run.specs.Seen.{Course, MayTake, IsPicked, IsStopDone, steps_to, plain_done}
 use Rattle.lhg_run.specs.Views.{plain_place}
 use Rattle.lhg_run.specs.declared.doing.Done.{Done}
 use Rattle.lhg_run.specs.declared.ways.Stop.{Stop}

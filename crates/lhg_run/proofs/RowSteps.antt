@@ -1,5 +1,5 @@
 -- Steps of the loop that gathers the rows of guards.
-use Rattle.std.proofs.Common.{◌≡◌, ℕ, zero, suc, ◌+◌, ◌<◌, ◌≤◌, List, [], ◌∷◌, ◌++◌, length, map, drop, get_or, Bool, true, false, cond, nat_eq, refl, sym, ap, ◌∙◌, subst, append_assoc, append-nil, arith, Result, Ok, Err}
+use Rattle.std.proofs.Common.{◌≡◌, ℕ, zero, suc, ◌+◌, ◌<◌, List, [], ◌∷◌, ◌++◌, length, map, drop, get_or, Bool, false, cond, nat_eq, refl, sym, ap, ◌∙◌, subst, append_assoc, arith, Result, Ok, Err}
 use Rattle.std.specs.Prelude.{OnOk, IfErr}
 use Rattle.std.specs.Result.{IsErrAnd}
 use Rattle.lhg_num.specs.Halting.{IsHaltedByMemory}
@@ -7,7 +7,6 @@ use Rattle.lhg_num.specs.Marked.{Marked, done}
 use Rattle.lhg_num.specs.declared.refusals.Halt.{Halt}
 use Rattle.lhg_num.specs.declared.refusals.Halt.TheVariants.{Wide, Rows, Pieces, Memory}
 use Rattle.std.proofs.lemmas.Bool.{eq-eqb, eqb-true}
-use Rattle.std.proofs.lemmas.List.{drop_all}
 use Rattle.std.specs.Global.{Vec}
 use Rattle.lhg_math.specs.Tests.{AllOf, by_bool}
 use Rattle.lhg_row.proofs.Steps.{drop_cons}

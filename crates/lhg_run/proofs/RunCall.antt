@@ -1,18 +1,15 @@
 -- Why a run stops at an entry, and what it keeps.
-use Rattle.std.proofs.Common.{◌≡◌, ℕ, zero, suc, ◌+◌, ◌<◌, List, [], ◌∷◌, ◌++◌, length, take, map, get_or, slice_get, add-one, Bool, Option, Some, Result, Ok, Err, refl, sym, ap, ◌∙◌, subst, arith}
+use Rattle.std.proofs.Common.{◌≡◌, ℕ, zero, suc, ◌+◌, ◌<◌, List, [], ◌∷◌, ◌++◌, length, take, get_or, slice_get, add-one, Bool, Some, Result, Ok, Err, sym, ap, ◌∙◌, subst, arith}
 use Rattle.std.specs.Prelude.{IfErr}
 use Rattle.std.specs.Result.{IsErrAnd}
-use Rattle.std.proofs.Math.Seq.{take-suc}
 use Rattle.lhg_math.specs.Tests.{AllOf}
 use Rattle.lhg_num.specs.declared.refusals.Halt.{Halt}
 use Rattle.lhg_num.specs.declared.refusals.Halt.TheVariants.{Wide, Rows, Pieces, Memory}
-use Rattle.lhg_play.specs.Views.{plain_steps}
 use Rattle.lhg_plant.specs.Plant.{PlainPlant}
 use Rattle.lhg_plant.specs.State.{PlainState}
 use Rattle.lhg_plant.specs.Controller.{PlainController}
 use Rattle.lhg_plant.specs.Run.{PlainEntry, PlainStep, RunPlace, IsLegalEntry, IsRun}
 use Rattle.lhg_plant.specs.Log.{IsFirstIllegal}
-use Rattle.lhg_plant.specs.Views.{plain_state}
 use Rattle.lhg_plant.proofs.StaysInside.{IsKept}
 use Rattle.lhg_run.specs.Answers.{IsAnswered, IsTraceBefore}
 use Rattle.lhg_run.specs.Numbers.{IsWideEntry, IsLongEntry}

@@ -1,5 +1,5 @@
 -- Steps of the loop over the entries of a log.
-use Rattle.std.proofs.Common.{◌≡◌, ◌⊎◌, inl, inr, ℕ, zero, suc, ◌+◌, ◌<◌, ◌≤◌, List, [], ◌∷◌, ◌++◌, length, take, get_or, map, slice_get, Option, Some, None, add-one, append_assoc, append-nil, refl, sym, ap, ◌∙◌, subst, arith}
+use Rattle.std.proofs.Common.{◌≡◌, ℕ, zero, suc, List, [], ◌∷◌, ◌++◌, take, slice_get, Some, append_assoc, append-nil, refl, sym, ap, ◌∙◌, subst}
 use Rattle.lhg_plant.specs.Plant.{PlainPlant}
 use Rattle.lhg_plant.specs.State.{PlainState}
 use Rattle.lhg_plant.specs.Region.{InRegion}
@@ -9,7 +9,7 @@ use Rattle.lhg_plant.specs.Log.{AllLegalFrom, IsIllegalFrom, IsFirstIllegal, IsL
 use Rattle.lhg_plant.proofs.RunDetermined.{does_once}
 use Rattle.lhg_plant.proofs.StaysInside.{MayPick, IsKept, entry_kept, resting_kept, run_inside}
 use Rattle.lhg_run.specs.Answers.{IsTraceOf}
-use Rattle.lhg_run.specs.Numbers.{StandsAt, AtTurn}
+use Rattle.lhg_run.specs.Numbers.{AtTurn}
 
 module _ (a : PlainPlant) (c : PlainController) where
   -- a run goes on by one more entry

@@ -1,5 +1,5 @@
 -- What the tests of rows tell of regions and guards, and which numbers they form.
-use Rattle.std.proofs.Common.{◌≡◌, ◌↔◌, ◌⊎◌, inl, inr, ◌+◌, ℕ, zero, suc, ◌<◌, List, [], ◌∷◌, ◌++◌, length, map, IsSomeAnd, slice_get, get_or, Bool, true, false, cond, nat_eq, ◌||◌, Option, Some, None, Result, Ok, Err, refl, sym, ap, ◌∙◌, subst, arith}
+use Rattle.std.proofs.Common.{◌≡◌, ◌↔◌, inl, inr, ◌+◌, ℕ, zero, suc, ◌<◌, List, [], ◌∷◌, ◌++◌, length, IsSomeAnd, slice_get, get_or, Bool, true, false, cond, nat_eq, ◌||◌, Option, Result, Ok, Err, refl, sym, ap, ◌∙◌, subst, arith}
 use Rattle.std.proofs.lemmas.Bool.{or_left, or_right, eq-eqb}
 use Rattle.std.proofs.lemmas.List.{get_or-map, length-map}
 use Rattle.std.specs.Global.{Vec}
@@ -12,7 +12,7 @@ use Rattle.lhg_num.specs.Marked.{Marked}
 use Rattle.lhg_num.specs.declared.refusals.Wide.{Wide}
 use Rattle.lhg_row.specs.Decisions.{nat_decided}
 use Rattle.lhg_row.specs.MarkedTests.{marked_all}
-use Rattle.lhg_row.specs.Piece.{PlainPiece, InSome, in_some}
+use Rattle.lhg_row.specs.Piece.{PlainPiece, in_some}
 use Rattle.lhg_row.specs.PieceLemmas.{in_some_is}
 use Rattle.lhg_row.specs.Row.{PlainPoint}
 use Rattle.lhg_row.specs.System.{PlainSystem}
@@ -28,7 +28,7 @@ use Rattle.lhg_plant.specs.Region.{PlainRegion, PlainGuards, InRegion, InGuard, 
 use Rattle.lhg_plant.specs.Controller.{PlainController}
 use Rattle.lhg_plant.specs.Run.{guard_rows, run_rows, state_along}
 use Rattle.lhg_plant.proofs.InsideStates.{some_inside}
-use Rattle.lhg_union.specs.PolyLists.{lines_of, AllVars}
+use Rattle.lhg_union.specs.PolyLists.{lines_of}
 use Rattle.lhg_union.specs.Regions.{polys_of, polys_at, plain_region}
 use Rattle.lhg_run.specs.Numbers.{sight}
 use Rattle.lhg_run.specs.Seen.{IsGuardAt}

@@ -1,5 +1,5 @@
 -- At which entry may a run be refused a number or a list of rows: which ones does it form there?
-use Rattle.std.specs.Prelude.{◌≡◌, ◌⊎◌, ℕ, zero, suc, Bool, true, List, [], take, Option, None, Some, get_or, slice_get}
+use Rattle.std.specs.Prelude.{◌≡◌, ◌⊎◌, ℕ, zero, suc, Bool, true, List, [], take, None, Some, get_or, slice_get}
 use Rattle.lhg_math.specs.Number.{Number}
 use Rattle.lhg_num.specs.FracArithmetic.{frac_arithmetic}
 use Rattle.lhg_num.specs.Marked.{Marked, and_then, marked_mul}

@@ -13,7 +13,7 @@ use Rattle.lhg_plant.specs.Plant.{PlainPlant}
 use Rattle.lhg_plant.specs.State.{PlainState, moved_to}
 use Rattle.lhg_plant.specs.Legal.{HasSide}
 use Rattle.lhg_plant.specs.Pick.{picked_result}
-use Rattle.lhg_plant.specs.Region.{PlainGuards, InRegion, InGuard, InSomeGuard}
+use Rattle.lhg_plant.specs.Region.{PlainGuards, InRegion, InSomeGuard}
 use Rattle.lhg_plant.specs.Controller.{PlainController}
 use Rattle.lhg_plant.specs.Views.{plain_state}
 use Rattle.lhg_plant.specs.Run.{PlainEntry, PlainStep, started, flowed, switched, landed, RunPlace, resting, result_at, state_along, PassesWhole, IsFirstGuard, StopsAt, IsLegalEntry, DoesEntry}

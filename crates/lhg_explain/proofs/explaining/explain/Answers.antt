@@ -7,6 +7,7 @@ use Rattle.lhg_loss.specs.Views.{plain_losses}
 use Rattle.lhg_explain.specs.Explanation.{loss_at, way_within, explanation}
 use Rattle.lhg_explain.specs.Explained.{AreRecords, IsExplained}
 use Rattle.lhg_explain.specs.Views.{plain_way, plain_escape}
+use Rattle.lhg_explain.proofs.Fitting.{explained_fits}
 use Rattle.lhg_explain.proofs.HeldRecords.{record_at}
 use Rattle.lhg_explain.proofs.NextSteps.{place_below, loss_plain}
 use Rattle.lhg_explain.proofs.WaySteps.{escape_of, explanation-part, explanation-value}
@@ -94,3 +95,6 @@ returns-clause-escape c =
     ∙ ap (λ w. escape_of (loss_at L m).round z w) c.in_ok-way.ensures
     ∙ sym (explanation-value a L m z) in
     subst (IsExplained a z) (sym same) (c.law_explain.ensures a p.proper L records m z c.requires.held)
+
+pub returns-clause-fits : goal.returns-clause-fits
+returns-clause-fits c = explained_fits (plain_plant c.args.plant.now) (plain_state c.args.state.now) _ (returns-clause-escape c)

@@ -1,4 +1,4 @@
-use Rattle.std.proofs.Common.{◌≡◌, suc, length, inl, inr, sym, subst, arith, rules}
+use Rattle.std.proofs.Common.{◌≡◌, suc, length, inr, sym, subst, arith, rules}
 use Rattle.lhg_plant.specs.Views.{plain_plant, plain_state}
 use Rattle.lhg_loss.specs.Views.{AreOver}
 use Rattle.lhg_loss.specs.Holding.{IsFirstHolding}

@@ -1,4 +1,4 @@
-use Rattle.std.proofs.Common.{inl, inr, ap, sym, subst}
+use Rattle.std.proofs.Common.{inr, ap, sym, subst}
 use Rattle.lhg_plant.specs.State.{PlainState, moved_to}
 use Rattle.lhg_plant.specs.Views.{plain_plant, plain_state}
 use Rattle.lhg_ctl.specs.Views.{plain_controller}

@@ -1,9 +1,7 @@
-use Rattle.std.proofs.Common.{◌≡◌, ◌<◌, length, map, sym, ap, ◌∙◌, slice_get, Option, Some, [], get_or, arith, rules}
-use Rattle.std.proofs.lemmas.List.{length-map}
+use Rattle.std.proofs.Common.{◌≡◌, ◌<◌, length, sym, ap, ◌∙◌, Option, arith, rules}
 use Rattle.lhg_num.specs.Marked.{Marked}
 use Rattle.lhg_row.specs.Row.{PlainPoint}
-use Rattle.lhg_plant.specs.Pick.{first_result}
-use Rattle.lhg_plant.specs.Views.{plain_plant, plain_switch, plain_location}
+use Rattle.lhg_plant.specs.Views.{plain_plant, plain_switch}
 use Rattle.lhg_union.specs.PolyLists.{lines_of}
 use Rattle.lhg_union.specs.Regions.{plain_region}
 use Rattle.lhg_run.proofs.Answering.{answered-rows}

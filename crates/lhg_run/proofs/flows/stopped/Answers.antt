@@ -1,7 +1,7 @@
-use Rattle.std.proofs.Common.{◌≡◌, ◌++◌, Some, ◌∷◌, [], inl, inr, refl}
+use Rattle.std.proofs.Common.{◌≡◌, ◌++◌, Some, ◌∷◌, [], inr, refl}
 use Rattle.lhg_math.specs.Number.{mul}
 use Rattle.lhg_play.specs.Views.{plain_steps}
-use Rattle.lhg_plant.specs.declared.plants.Side.TheVariants.{Ctl, Pick}
+use Rattle.lhg_plant.specs.declared.plants.Side.TheVariants.{Pick}
 use Rattle.lhg_plant.specs.Run.{switched}
 use Rattle.lhg_plant.specs.State.{moved_to}
 use Rattle.lhg_plant.specs.Views.{plain_plant, plain_state, plain_switch}

@@ -1,5 +1,4 @@
-use Rattle.std.proofs.Common.{◌≡◌, ◌<◌, ◌++◌, length, ap, ◌∙◌, refl, subst, sym, arith}
-use Rattle.lhg_row.specs.Width.{AllWide}
+use Rattle.std.proofs.Common.{◌<◌, ◌++◌, length, ap, ◌∙◌, refl, subst, sym, arith}
 use Rattle.lhg_motion.specs.CheckPoint.{rows_of}
 use Rattle.lhg_union.specs.PolyLists.{lines_of, AllVars}
 use Rattle.lhg_run.proofs.RowSteps.{guards-taken, guards-passed, some-at, vars-at, ok_then, err_memory}

@@ -1,4 +1,4 @@
-use Rattle.std.proofs.Common.{◌≡◌, ◌++◌, List, ap, sym, ◌∙◌, append_assoc, drop, rules, ◌+◌}
+use Rattle.std.proofs.Common.{◌≡◌, ◌++◌, List, ap, sym, ◌∙◌, append_assoc, drop, ◌+◌}
 use Rattle.lhg_row.specs.System.{PlainSystem}
 use Rattle.lhg_row.proofs.Steps.{drop_cons}
 use Rattle.lhg_motion.specs.CheckPoint.{rows_of}

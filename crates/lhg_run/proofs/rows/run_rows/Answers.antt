@@ -1,7 +1,6 @@
-use Rattle.std.proofs.Common.{◌≡◌, ◌<◌, ◌++◌, length, map, ap, sym, ◌∙◌, subst, arith, [], get_or}
+use Rattle.std.proofs.Common.{◌<◌, length, ap, sym, ◌∙◌, subst, arith}
 use Rattle.std.proofs.lemmas.List.{length-map}
 use Rattle.lhg_math.specs.Tests.{AllOf}
-use Rattle.lhg_row.specs.Row.{PlainRow}
 use Rattle.lhg_row.specs.Width.{AllWide}
 use Rattle.lhg_motion.specs.CheckPoint.{rows_of}
 use Rattle.lhg_plant.specs.Run.{guard_rows}

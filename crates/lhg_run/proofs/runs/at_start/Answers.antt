@@ -1,4 +1,4 @@
-use Rattle.std.proofs.Common.{◌≡◌, ◌<◌, List, [], ◌∷◌, ◌++◌, length, sym, ap, ◌∙◌, subst, arith, refl}
+use Rattle.std.proofs.Common.{◌<◌, List, [], ◌∷◌, ◌++◌, length, sym, ap, ◌∙◌, subst, arith}
 use Rattle.std.proofs.lemmas.List.{length-map}
 use Rattle.lhg_play.specs.Views.{plain_steps}
 use Rattle.lhg_play.specs.declared.traces.Step.{Step}
@@ -7,7 +7,6 @@ use Rattle.lhg_plant.specs.Run.{started, resting}
 use Rattle.lhg_plant.specs.Views.{plain_plant, plain_state, plain_location}
 use Rattle.lhg_union.specs.PolyLists.{AllVars}
 use Rattle.lhg_union.specs.Regions.{polys_at, plain_region}
-use Rattle.lhg_ctl.specs.Views.{plain_controller}
 use Rattle.lhg_run.proofs.SightSteps.{list-at, polys-at, start-outside, start-inside}
 use Rattle.lhg_run.proofs.runs.at_start.Goals as goal
 

@@ -1,7 +1,6 @@
-use Rattle.std.proofs.Common.{◌≡◌, ◌<◌, ◌+◌, ◌≤◌, ◌++◌, ◌∷◌, [], length, map, take, refl, sym, ap, ◌∙◌, subst, arith, Bool, true, false}
+use Rattle.std.proofs.Common.{◌≤◌, ◌++◌, ◌∷◌, [], length, take, refl, sym, subst, arith, true, false}
 use Rattle.std.proofs.lemmas.List.{length-map, take_all}
 use Rattle.lhg_play.specs.Views.{plain_steps}
-use Rattle.lhg_plant.specs.Run.{PlainStep, RunPlace, started, resting}
 use Rattle.lhg_plant.specs.Views.{plain_plant, plain_state}
 use Rattle.lhg_ctl.specs.Views.{plain_controller}
 use Rattle.lhg_run.specs.Seen.{running_place, IsStep}
@@ -9,7 +8,7 @@ use Rattle.lhg_run.specs.Stop.{IsStop}
 use Rattle.lhg_ctl.specs.LogViews.{plain_entry}
 use Rattle.lhg_run.specs.Views.{plain_entries, IsOver}
 use Rattle.lhg_run.proofs.RunCall.{err_on, entry-there, entry-at, take-entry, kept-standing, illegal-at, halted-at}
-use Rattle.lhg_run.proofs.RunSteps.{IsRunning, running-start, running-more, running-end}
+use Rattle.lhg_run.proofs.RunSteps.{IsRunning, running-more, running-end}
 use Rattle.lhg_run.proofs.runs.run.Goals as goal
 
 pub returns-in_err-running-clause-stop : goal.returns-in_err-running-clause-stop

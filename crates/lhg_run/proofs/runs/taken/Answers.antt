@@ -1,4 +1,4 @@
-use Rattle.std.proofs.Common.{Option, None, Some, ℕ, ap, refl}
+use Rattle.std.proofs.Common.{Option, Some, ℕ, ap, refl}
 use Rattle.lhg_plant.specs.Run.{env_entry, land_entry, resting}
 use Rattle.lhg_plant.specs.Views.{plain_plant, plain_state}
 use Rattle.lhg_ctl.specs.Views.{plain_controller}

@@ -1,5 +1,4 @@
-use Rattle.std.proofs.Common.{◌≡◌, ◌<◌, length, sym, ap, ◌∙◌, subst, get_or, slice_get, arith, []}
-use Rattle.lhg_num.specs.FracArithmetic.{frac_arithmetic}
+use Rattle.std.proofs.Common.{◌≡◌, ◌<◌, length, ap, ◌∙◌, get_or, slice_get, arith, []}
 use Rattle.lhg_plant.specs.Plant.{PlainSwitch}
 use Rattle.lhg_plant.specs.Views.{plain_plant, plain_switch}
 use Rattle.lhg_plant.proofs.Options.{there_some}

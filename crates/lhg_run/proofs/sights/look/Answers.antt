@@ -1,11 +1,8 @@
-use Rattle.std.proofs.Common.{◌≡◌, ◌<◌, length, sym, ap, ◌∙◌, subst, true, arith, Option, Some, None}
+use Rattle.std.proofs.Common.{◌≡◌, ◌<◌, length, sym, ap, ◌∙◌, subst, true, arith, Some, None}
 use Rattle.lhg_num.specs.FracArithmetic.{frac_arithmetic}
-use Rattle.lhg_row.specs.Row.{PlainPoint}
 use Rattle.lhg_row.specs.Truths.{piece_truth, some_truth}
-use Rattle.lhg_motion.specs.Segment.{along}
 use Rattle.lhg_plant.specs.Plant.{PlainLocation}
-use Rattle.lhg_plant.specs.Region.{PlainGuards}
-use Rattle.lhg_plant.specs.Run.{guard_rows, state_along}
+use Rattle.lhg_plant.specs.Run.{guard_rows}
 use Rattle.lhg_plant.specs.Views.{plain_plant, plain_state}
 use Rattle.lhg_plant.proofs.RunInside.{along_state}
 use Rattle.lhg_union.specs.PolyLists.{AllVars, lines_of}

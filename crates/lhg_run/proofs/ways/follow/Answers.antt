@@ -1,4 +1,4 @@
-use Rattle.std.proofs.Common.{◌≡◌, ◌≤◌, length, sym, ap, ◌∙◌, subst, take, drop, arith, ◌+◌}
+use Rattle.std.proofs.Common.{sym, ◌∙◌, subst, take, drop, ◌+◌}
 use Rattle.std.proofs.lemmas.List.{take_all}
 use Rattle.lhg_plant.specs.Views.{plain_plant, plain_state}
 use Rattle.lhg_ctl.specs.Views.{plain_controller}
