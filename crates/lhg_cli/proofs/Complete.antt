@@ -13,24 +13,28 @@ use Rattle.lhg_loss.specs.StageFacts.{RemovesSome}
 use Rattle.lhg_loss.proofs.LastRounds.{last_law}
 use Rattle.lhg_loss.proofs.Seeking.{outcome_laws}
 use Rattle.lhg_gen.specs.GeneratedPlant.{generated_plant}
-use Rattle.lhg_input.specs.Inputs.{IsControllerInput}
-use Rattle.lhg_input.proofs.Wholes.{controllers_one}
+use Rattle.lhg_input.specs.Inputs.{IsControllerInput, IsLogInput, IsStateInput}
+use Rattle.lhg_input.proofs.Wholes.{controllers_one, logs_one}
 use Rattle.lhg_cli.specs.Answer.{IsAnswer, IsAnswerTo, IsInputAnswer, IsPlantInput, IsSynthAnswer, IsTextFor, IsSolvable, IsUsedUp}
 use Rattle.lhg_cli.specs.InputAnswer.{IsInput}
 use Rattle.lhg_cli.specs.Migration.{IsMigrated}
 use Rattle.lhg_cli.specs.PlantAnswer.{IsOutcome, IsPlantAnswer, IsReport, IsStopped}
 use Rattle.lhg_cli.specs.Refusal.{IsRefusal}
+use Rattle.lhg_cli.specs.RunAnswer.{IsRan, IsRunnable, IsUnrunnable, IsSureRun}
+use Rattle.lhg_cli.specs.StateAnswer.{IsStateAnswer, IsExplainable, IsSureStatus}
 use Rattle.lhg_cli.specs.Settling.{IsWithin, IsSettled, IsUnsettled}
 use Rattle.lhg_cli.specs.Summary.{IsSummary}
 use Rattle.lhg_cli.specs.Verdict.{IsChecked, IsValidInput, IsInvalidInput}
-use Rattle.lhg_cli.specs.Words.{Asks, NeedsInput, AsksSynth, AsksGen, AskForInput, most_rounds}
+use Rattle.lhg_cli.specs.Words.{Asks, NeedsInput, AsksSynth, AsksExplain, AsksGen, AskForInput, most_rounds}
 use Rattle.lhg_cli.specs.declared.request.Request.{Request}
-use Rattle.lhg_cli.specs.declared.request.Request.TheVariants.{Synth, Check, Migrate, Gen}
+use Rattle.lhg_cli.specs.declared.request.Request.TheVariants.{Synth, Check, Run, Explain, Migrate, Gen}
 use Rattle.lhg_cli.specs.declared.status.Status.{Status}
 use Rattle.lhg_cli.specs.declared.status.Status.TheVariants as status
 use Rattle.lhg_cli.proofs.AnswerSteps.{answer_is, its_answer}
 use Rattle.lhg_cli.proofs.GeneratedGame.{settles}
 use Rattle.lhg_cli.proofs.InputSteps.{not_refused, of_value, no_value, its_bytes}
+use Rattle.lhg_cli.proofs.RunAnswers.{sure_ran, not_ran}
+use Rattle.lhg_cli.proofs.SeekComplete.{sure_of}
 use Rattle.lhg_cli.proofs.VerdictSteps.{valid_done, invalid_no}
 use Rattle.lhg_cli.proofs.WordSteps.{one_request}
 
@@ -137,6 +141,8 @@ module _ (words : List (List ℕ)) (P Q : Type 0) (s : Status) (text : List ℕ)
   not_text : (bytes : List ℕ) (r : Request) → IsAnswerTo r (Some bytes) s text → ¬ IsTextFor r bytes → (s ≡ status.Text) ⊎ (s ≡ status.Memory)
   not_text bytes (Synth n) h t = other_refused n bytes s text h t
   not_text bytes Check h t = inl (no_value IsControllerInput IsChecked bytes s text t (its_bytes IsControllerInput IsChecked bytes s text h))
+  not_text bytes Run h t = inl (no_value IsLogInput IsRan bytes s text t (its_bytes IsLogInput IsRan bytes s text h))
+  not_text bytes (Explain n) h t = inl (no_value IsStateInput (IsStateAnswer n) bytes s text t (its_bytes IsStateInput (IsStateAnswer n) bytes s text h))
   not_text bytes Migrate h t = inl (no_value IsControllerInput IsMigrated bytes s text t (its_bytes IsControllerInput IsMigrated bytes s text h))
   not_text bytes (Gen k) h t = absurd (t tt)
 
@@ -164,6 +170,26 @@ module _ (words : List (List ℕ)) (P Q : Type 0) (s : Status) (text : List ℕ)
   migrated None h asked = tt
   migrated (Some bytes) h asked = λ t p q.
       inl (of_value IsControllerInput IsMigrated bytes (controllers_one.one_value (lines_of bytes)) t s text (its_bytes IsControllerInput IsMigrated bytes s text (its_answer words (Some bytes) s text Migrate asked h))).0
+
+  -- a controller that is written runs over a log that is recorded
+  run_over : (bytes : List ℕ) → IsAnswer words (Some bytes) s text → Asks words Run → (input : IsInput IsLogInput bytes) → IsRan input.value s text
+  run_over bytes h asked input = of_value IsLogInput IsRan bytes (logs_one.one_value (lines_of bytes)) input s text (its_bytes IsLogInput IsRan bytes s text (its_answer words (Some bytes) s text Run asked h))
+
+  pub ran : (input : Option (List ℕ)) → IsAnswer words input s text → Asks words Run
+      → IfSome input (λ bytes. (t : IsRunnable bytes) → P → Q → IsSureRun t.input.value s ⊎ (s ≡ status.Memory))
+  ran None h asked = tt
+  ran (Some bytes) h asked = λ t p q. inl (sure_ran t.input.value t.limits t.valid s text (run_over bytes h asked t.input))
+
+  pub unrun : (input : Option (List ℕ)) → IsAnswer words input s text → Asks words Run
+      → IfSome input (λ bytes. IsUnrunnable bytes → P → Q → (s ≡ status.No) ⊎ (s ≡ status.Memory))
+  unrun None h asked = tt
+  unrun (Some bytes) h asked = λ t p q. inl (not_ran t.input.value t.limits t.fails s text (run_over bytes h asked t.input))
+
+  pub explained : (input : Option (List ℕ)) → IsAnswer words input s text → (n : ℕ) → AsksExplain words n
+      → IfSome input (λ bytes. (t : IsExplainable n bytes) → P → Q → IsSureStatus n t.input.value s ⊎ (s ≡ status.Memory))
+  explained None h n asked = tt
+  explained (Some bytes) h n asked = λ t p q.
+      inl (sure_of n bytes t.input s text (its_bytes IsStateInput (IsStateAnswer n) bytes s text (its_answer words (Some bytes) s text (Explain n) asked h)) t.limits)
 
 -- ---- a generated plant
 module _ (words : List (List ℕ)) (input : Option (List ℕ)) (s : Status) (text : List ℕ) (h : IsAnswer words input s text) (k : ℕ) (asked : AsksGen words k) where

@@ -1,5 +1,5 @@
 -- Where does a run over a log have a sure answer?
-use Rattle.std.proofs.Common.{ℕ, List, Result, IfOk, inl, inr, refl, sym, ◌∙◌}
+use Rattle.std.proofs.Common.{◌≡◌, ℕ, List, Result, IfOk, inl, inr, refl, sym, ◌∙◌}
 use Rattle.lhg_lex.specs.Lines.{lines_of}
 use Rattle.lhg_math.specs.Tests.{false_true}
 use Rattle.lhg_plant.specs.Controller.{PlainController, IsValid}
@@ -15,7 +15,7 @@ use Rattle.lhg_input.specs.Inputs.{IsLogInput}
 use Rattle.lhg_input.proofs.Wholes.{logs_one}
 use Rattle.lhg_cli.specs.InputAnswer.{IsInput, IsBytesAnswer}
 use Rattle.lhg_cli.specs.RunAnswer.{IsRunOutcome, IsCheckNo, IsRan, IsWithinRun, IsSureRun}
-use Rattle.lhg_cli.specs.Verdict.{controller_in}
+use Rattle.lhg_cli.specs.Verdict.{controller_in, IsWithinCheck}
 use Rattle.lhg_cli.specs.declared.solving.Answer.{Answer}
 use Rattle.lhg_cli.specs.declared.status.Status.{Status}
 use Rattle.lhg_cli.specs.declared.status.Status.TheVariants as status
@@ -60,10 +60,30 @@ module _ (input : (PlainPlant × PlainDraft) × PlainLog) (t : IsWithinRun input
   by_run status.Write text h = absurd h
   by_run status.Memory text h = absurd h
 
-  sure_ran : (s : Status) (text : List ℕ) → IsRan input s text → IsSureRun input s
+  pub sure_ran : (s : Status) (text : List ℕ) → IsRan input s text → IsSureRun input s
   sure_ran s text (inl h) = absurd (by_check s text h)
   sure_ran s text (inr h) = by_run s text h.outcome
 
+-- ---- where the controller is not valid
+module _ (input : (PlainPlant × PlainDraft) × PlainLog) (t : IsWithinCheck input.0) (fails : ¬ IsValid input.0.0 (controller_in input.0)) where
+  told_no : (s : Status) (text : List ℕ) → IsCheckNo input.0 s text → s ≡ status.No
+  told_no status.Done text h = absurd h
+  told_no status.No text h = refl
+  told_no status.Words text h = absurd h
+  told_no status.Text text h = absurd h
+  told_no status.Wide text h = false_true (sym t.numbers ∙ h.marked)
+  told_no status.Lists text (inl h) = false_true (sym t.rows ∙ h.marked)
+  told_no status.Lists text (inr h) = false_true (sym t.pieces ∙ h.marked)
+  told_no status.Spent text h = absurd h
+  told_no status.Read text h = absurd h
+  told_no status.Write text h = absurd h
+  told_no status.Memory text h = absurd h
+
+  pub not_ran : (s : Status) (text : List ℕ) → IsRan input s text → s ≡ status.No
+  not_ran s text (inl h) = told_no s text h
+  not_ran s text (inr h) = absurd (fails h.valid)
+
+-- ---- an input
 pub sure_run : {E : Type 0} (bytes : List ℕ) (r : Result Answer E) → IfOk r (λ a. IsBytesAnswer IsLogInput IsRan bytes a.status a.text.items)
     → IfOk r (λ a. (input : IsInput IsLogInput bytes) → IsWithinRun input.value → IsValid input.value.0.0 (controller_in input.value.0) → IsSureRun input.value a.status)
 sure_run bytes r =

@@ -3,9 +3,9 @@ use Rattle.std.proofs.Common.{◌≡◌, ◌≢◌, ◌<◌, ◌≤◌, ◌^◌,
 use Rattle.std.specs.Prelude.{codes, decimal}
 use Rattle.std.specs.Str.Parse.{digits_value, ParsesUnsigned}
 use Rattle.std.proofs.lemmas.Fmt.{decimal_is_IsNumeral, parse-decimal}
-use Rattle.lhg_cli.specs.Words.{AsksSynth, AsksGen, Asks, HasRounds, most_rounds}
+use Rattle.lhg_cli.specs.Words.{AsksSynth, AsksExplain, AsksGen, Asks, HasRounds, most_rounds}
 use Rattle.lhg_cli.specs.declared.request.Request.{Request}
-use Rattle.lhg_cli.specs.declared.request.Request.TheVariants.{Synth, Check, Migrate, Gen}
+use Rattle.lhg_cli.specs.declared.request.Request.TheVariants.{Synth, Check, Run, Explain, Migrate, Gen}
 
 -- the second word, where there is one
 abbrev second : List (List ℕ) → List ℕ
@@ -27,6 +27,12 @@ one_budget words m n (inl h) (inr k) = absurd (one_not_two _ _ _ (sym h.0 ∙ k.
 one_budget words m n (inr h) (inl k) = absurd (one_not_two _ _ _ (sym k.0 ∙ h.0))
 one_budget words m n (inr h) (inr k) = let p = h.2 in let q = k.2 in same_number m n (omega (arith, p)) (omega (arith, q)) (ap second (sym h.0 ∙ k.0))
 
+one_explained : (words : List (List ℕ)) (m n : ℕ) → AsksExplain words m → AsksExplain words n → m ≡ n
+one_explained words m n (inl h) (inl k) = h.1 ∙ sym k.1
+one_explained words m n (inl h) (inr k) = absurd (one_not_two _ _ _ (sym h.0 ∙ k.0))
+one_explained words m n (inr h) (inl k) = absurd (one_not_two _ _ _ (sym k.0 ∙ h.0))
+one_explained words m n (inr h) (inr k) = let p = h.2 in let q = k.2 in same_number m n (omega (arith, p)) (omega (arith, q)) (ap second (sym h.0 ∙ k.0))
+
 one_size : (words : List (List ℕ)) (j k : ℕ) → AsksGen words j → AsksGen words k → j ≡ k
 one_size words j k g h = let p = g.1.few in let q = h.1.few in same_number j k (omega (arith, p)) (omega (arith, q)) (ap second (sym g.0 ∙ h.0))
 
@@ -39,6 +45,8 @@ first (w ∷ ws) = w
 abbrev word_of : Request → List ℕ
 word_of (Synth n) = codes "synth"
 word_of Check = codes "check"
+word_of Run = codes "run"
+word_of (Explain n) = codes "explain"
 word_of Migrate = codes "migrate"
 word_of (Gen k) = codes "gen"
 
@@ -46,6 +54,9 @@ first_is : (words : List (List ℕ)) (r : Request) → Asks words r → first wo
 first_is words (Synth n) (inl h) = ap first h.0
 first_is words (Synth n) (inr h) = ap first h.0
 first_is words Check h = ap first h
+first_is words Run h = ap first h
+first_is words (Explain n) (inl h) = ap first h.0
+first_is words (Explain n) (inr h) = ap first h.0
 first_is words Migrate h = ap first h
 first_is words (Gen k) h = ap first h.0
 
@@ -61,11 +72,23 @@ byte (b ∷ bs) = b
 synth_not_check : codes "synth" ≡ codes "check" → ⊥
 synth_not_check e = let b : 115 ≡ 99 = ap byte e in omega (arith, b)
 
+synth_not_run : codes "synth" ≡ codes "run" → ⊥
+synth_not_run e = let b : 115 ≡ 114 = ap byte e in omega (arith, b)
+
+synth_not_explain : codes "synth" ≡ codes "explain" → ⊥
+synth_not_explain e = let b : 115 ≡ 101 = ap byte e in omega (arith, b)
+
 synth_not_migrate : codes "synth" ≡ codes "migrate" → ⊥
 synth_not_migrate e = let b : 115 ≡ 109 = ap byte e in omega (arith, b)
 
 synth_not_gen : codes "synth" ≡ codes "gen" → ⊥
 synth_not_gen e = let b : 115 ≡ 103 = ap byte e in omega (arith, b)
+
+check_not_run : codes "check" ≡ codes "run" → ⊥
+check_not_run e = let b : 99 ≡ 114 = ap byte e in omega (arith, b)
+
+check_not_explain : codes "check" ≡ codes "explain" → ⊥
+check_not_explain e = let b : 99 ≡ 101 = ap byte e in omega (arith, b)
 
 check_not_migrate : codes "check" ≡ codes "migrate" → ⊥
 check_not_migrate e = let b : 99 ≡ 109 = ap byte e in omega (arith, b)
@@ -73,57 +96,104 @@ check_not_migrate e = let b : 99 ≡ 109 = ap byte e in omega (arith, b)
 check_not_gen : codes "check" ≡ codes "gen" → ⊥
 check_not_gen e = let b : 99 ≡ 103 = ap byte e in omega (arith, b)
 
+run_not_explain : codes "run" ≡ codes "explain" → ⊥
+run_not_explain e = let b : 114 ≡ 101 = ap byte e in omega (arith, b)
+
+run_not_migrate : codes "run" ≡ codes "migrate" → ⊥
+run_not_migrate e = let b : 114 ≡ 109 = ap byte e in omega (arith, b)
+
+run_not_gen : codes "run" ≡ codes "gen" → ⊥
+run_not_gen e = let b : 114 ≡ 103 = ap byte e in omega (arith, b)
+
+explain_not_migrate : codes "explain" ≡ codes "migrate" → ⊥
+explain_not_migrate e = let b : 101 ≡ 109 = ap byte e in omega (arith, b)
+
+explain_not_gen : codes "explain" ≡ codes "gen" → ⊥
+explain_not_gen e = let b : 101 ≡ 103 = ap byte e in omega (arith, b)
+
 migrate_not_gen : codes "migrate" ≡ codes "gen" → ⊥
 migrate_not_gen e = let b : 109 ≡ 103 = ap byte e in omega (arith, b)
 
 pub one_request : (words : List (List ℕ)) (q r : Request) → Asks words q → Asks words r → q ≡ r
 one_request words (Synth m) (Synth n) h k = ap Synth (one_budget words m n h k)
 one_request words Check Check h k = refl
+one_request words Run Run h k = refl
+one_request words (Explain m) (Explain n) h k = ap Explain (one_explained words m n h k)
 one_request words Migrate Migrate h k = refl
-one_request words (Gen j) (Gen k) h g = ap Gen (one_size words j k h g)
-one_request words (Synth n) Check h k = other words (Synth n) Check synth_not_check h k
-one_request words (Synth n) Migrate h k = other words (Synth n) Migrate synth_not_migrate h k
-one_request words (Synth n) (Gen k) h g = other words (Synth n) (Gen k) synth_not_gen h g
+one_request words (Gen j) (Gen k) g h = ap Gen (one_size words j k g h)
+one_request words (Synth m) Check h k = other words (Synth m) Check synth_not_check h k
+one_request words (Synth m) Run h k = other words (Synth m) Run synth_not_run h k
+one_request words (Synth m) (Explain n) h k = other words (Synth m) (Explain n) synth_not_explain h k
+one_request words (Synth m) Migrate h k = other words (Synth m) Migrate synth_not_migrate h k
+one_request words (Synth m) (Gen n) h k = other words (Synth m) (Gen n) synth_not_gen h k
 one_request words Check (Synth n) h k = other words (Synth n) Check synth_not_check k h
+one_request words Check Run h k = other words Check Run check_not_run h k
+one_request words Check (Explain n) h k = other words Check (Explain n) check_not_explain h k
 one_request words Check Migrate h k = other words Check Migrate check_not_migrate h k
-one_request words Check (Gen k) h g = other words Check (Gen k) check_not_gen h g
+one_request words Check (Gen n) h k = other words Check (Gen n) check_not_gen h k
+one_request words Run (Synth n) h k = other words (Synth n) Run synth_not_run k h
+one_request words Run Check h k = other words Check Run check_not_run k h
+one_request words Run (Explain n) h k = other words Run (Explain n) run_not_explain h k
+one_request words Run Migrate h k = other words Run Migrate run_not_migrate h k
+one_request words Run (Gen n) h k = other words Run (Gen n) run_not_gen h k
+one_request words (Explain m) (Synth n) h k = other words (Synth n) (Explain m) synth_not_explain k h
+one_request words (Explain m) Check h k = other words Check (Explain m) check_not_explain k h
+one_request words (Explain m) Run h k = other words Run (Explain m) run_not_explain k h
+one_request words (Explain m) Migrate h k = other words (Explain m) Migrate explain_not_migrate h k
+one_request words (Explain m) (Gen n) h k = other words (Explain m) (Gen n) explain_not_gen h k
 one_request words Migrate (Synth n) h k = other words (Synth n) Migrate synth_not_migrate k h
 one_request words Migrate Check h k = other words Check Migrate check_not_migrate k h
-one_request words Migrate (Gen k) h g = other words Migrate (Gen k) migrate_not_gen h g
-one_request words (Gen k) (Synth n) g h = other words (Synth n) (Gen k) synth_not_gen h g
-one_request words (Gen k) Check g h = other words Check (Gen k) check_not_gen h g
-one_request words (Gen k) Migrate g h = other words Migrate (Gen k) migrate_not_gen h g
+one_request words Migrate Run h k = other words Run Migrate run_not_migrate k h
+one_request words Migrate (Explain n) h k = other words (Explain n) Migrate explain_not_migrate k h
+one_request words Migrate (Gen n) h k = other words Migrate (Gen n) migrate_not_gen h k
+one_request words (Gen m) (Synth n) h k = other words (Synth n) (Gen m) synth_not_gen k h
+one_request words (Gen m) Check h k = other words Check (Gen m) check_not_gen k h
+one_request words (Gen m) Run h k = other words Run (Gen m) run_not_gen k h
+one_request words (Gen m) (Explain n) h k = other words (Explain n) (Gen m) explain_not_gen k h
+one_request words (Gen m) Migrate h k = other words Migrate (Gen m) migrate_not_gen k h
 
 -- ---- words that ask for nothing
-pub not_alone : (word : List ℕ) → word ≢ codes "synth" → word ≢ codes "check" → word ≢ codes "migrate" → (r : Request) → ¬ Asks (word ∷ []) r
-not_alone word s c m (Synth n) (inl h) = s (ap first h.0)
-not_alone word s c m (Synth n) (inr h) = one_not_two _ _ _ h.0
-not_alone word s c m Check h = c (ap first h)
-not_alone word s c m Migrate h = m (ap first h)
-not_alone word s c m (Gen k) g = one_not_two _ _ _ g.0
+pub not_alone : (word : List ℕ) → word ≢ codes "synth" → word ≢ codes "check" → word ≢ codes "run" → word ≢ codes "explain" → word ≢ codes "migrate" → (r : Request) → ¬ Asks (word ∷ []) r
+not_alone word s c u x m (Synth n) (inl h) = s (ap first h.0)
+not_alone word s c u x m (Synth n) (inr h) = one_not_two _ _ _ h.0
+not_alone word s c u x m Check h = c (ap first h)
+not_alone word s c u x m Run h = u (ap first h)
+not_alone word s c u x m (Explain n) (inl h) = x (ap first h.0)
+not_alone word s c u x m (Explain n) (inr h) = one_not_two _ _ _ h.0
+not_alone word s c u x m Migrate h = m (ap first h)
+not_alone word s c u x m (Gen k) g = one_not_two _ _ _ g.0
 
--- two words ask for a synthesis or for a generated plant
-pub not_with_number : (word number : List ℕ) → (word ≡ codes "synth" → (n : ℕ) → 1 ≤ n → n ≤ most_rounds → number ≢ decimal n) → (word ≡ codes "gen" → (k : ℕ) → 1 ≤ k → k ≤ 64 → number ≢ decimal k)
-    → (r : Request) → ¬ Asks (word ∷ number ∷ []) r
-not_with_number word number s g (Synth n) (inl h) = one_not_two _ _ _ (sym h.0)
-not_with_number word number s g (Synth n) (inr h) = s (ap first h.0) n h.1 h.2 (ap second h.0)
-not_with_number word number s g Check h = one_not_two _ _ _ (sym h)
-not_with_number word number s g Migrate h = one_not_two _ _ _ (sym h)
-not_with_number word number s g (Gen k) h = g (ap first h.0) k h.1.some h.1.few (ap second h.0)
+-- two words ask for a synthesis, for what becomes of a state, or for a generated plant
+pub not_with_number : (word number : List ℕ) → (word ≡ codes "synth" → (n : ℕ) → 1 ≤ n → n ≤ most_rounds → number ≢ decimal n) → (word ≡ codes "explain" → (n : ℕ) → 1 ≤ n → n ≤ most_rounds → number ≢ decimal n)
+    → (word ≡ codes "gen" → (k : ℕ) → 1 ≤ k → k ≤ 64 → number ≢ decimal k) → (r : Request) → ¬ Asks (word ∷ number ∷ []) r
+not_with_number word number s x g (Synth n) (inl h) = one_not_two _ _ _ (sym h.0)
+not_with_number word number s x g (Synth n) (inr h) = s (ap first h.0) n h.1 h.2 (ap second h.0)
+not_with_number word number s x g Check h = one_not_two _ _ _ (sym h)
+not_with_number word number s x g Run h = one_not_two _ _ _ (sym h)
+not_with_number word number s x g (Explain n) (inl h) = one_not_two _ _ _ (sym h.0)
+not_with_number word number s x g (Explain n) (inr h) = x (ap first h.0) n h.1 h.2 (ap second h.0)
+not_with_number word number s x g Migrate h = one_not_two _ _ _ (sym h)
+not_with_number word number s x g (Gen k) h = g (ap first h.0) k h.1.some h.1.few (ap second h.0)
 
 pub not_with_rounds : (word number : List ℕ) → word ≡ codes "synth" → ((n : ℕ) → 1 ≤ n → n ≤ most_rounds → number ≢ decimal n) → (r : Request) → ¬ Asks (word ∷ number ∷ []) r
-not_with_rounds word number e none = not_with_number word number (λ w. none) (λ w. absurd (synth_not_gen (sym e ∙ w)))
+not_with_rounds word number e none = not_with_number word number (λ w. none) (λ w. absurd (synth_not_explain (sym e ∙ w))) (λ w. absurd (synth_not_gen (sym e ∙ w)))
+
+pub not_explained : (word number : List ℕ) → word ≡ codes "explain" → ((n : ℕ) → 1 ≤ n → n ≤ most_rounds → number ≢ decimal n) → (r : Request) → ¬ Asks (word ∷ number ∷ []) r
+not_explained word number e none = not_with_number word number (λ w. absurd (synth_not_explain (sym w ∙ e))) (λ w. none) (λ w. absurd (explain_not_gen (sym e ∙ w)))
 
 pub not_with_size : (word number : List ℕ) → word ≡ codes "gen" → ((k : ℕ) → 1 ≤ k → k ≤ 64 → number ≢ decimal k) → (r : Request) → ¬ Asks (word ∷ number ∷ []) r
-not_with_size word number e none = not_with_number word number (λ w. absurd (synth_not_gen (sym w ∙ e))) (λ w. none)
+not_with_size word number e none = not_with_number word number (λ w. absurd (synth_not_gen (sym w ∙ e))) (λ w. absurd (explain_not_gen (sym w ∙ e))) (λ w. none)
 
-pub not_with_word : (word number : List ℕ) → word ≢ codes "synth" → word ≢ codes "gen" → (r : Request) → ¬ Asks (word ∷ number ∷ []) r
-not_with_word word number s g = not_with_number word number (λ w. absurd (s w)) (λ w. absurd (g w))
+pub not_with_word : (word number : List ℕ) → word ≢ codes "synth" → word ≢ codes "explain" → word ≢ codes "gen" → (r : Request) → ¬ Asks (word ∷ number ∷ []) r
+not_with_word word number s x g = not_with_number word number (λ w. absurd (s w)) (λ w. absurd (x w)) (λ w. absurd (g w))
 
 pub not_asked : (words : List (List ℕ)) → length words ≢ 1 → length words ≢ 2 → (r : Request) → ¬ Asks words r
 not_asked words one two (Synth n) (inl h) = one (ap length h.0)
 not_asked words one two (Synth n) (inr h) = two (ap length h.0)
 not_asked words one two Check h = one (ap length h)
+not_asked words one two Run h = one (ap length h)
+not_asked words one two (Explain n) (inl h) = one (ap length h.0)
+not_asked words one two (Explain n) (inr h) = two (ap length h.0)
 not_asked words one two Migrate h = one (ap length h)
 not_asked words one two (Gen k) g = two (ap length g.0)
 
@@ -132,9 +202,15 @@ pub synth_within : (words : List (List ℕ)) (n : ℕ) → AsksSynth words n →
 synth_within words n (inl h) = let e = h.1 in (omega (arith, e), omega (arith, e))
 synth_within words n (inr h) = (h.1, h.2)
 
+pub explain_within : (words : List (List ℕ)) (n : ℕ) → AsksExplain words n → (1 ≤ n) × (n ≤ most_rounds)
+explain_within words n (inl h) = let e = h.1 in (omega (arith, e), omega (arith, e))
+explain_within words n (inr h) = (h.1, h.2)
+
 pub asked_within : (words : List (List ℕ)) (r : Request) → Asks words r → HasRounds r
 asked_within words (Synth n) h = synth_within words n h
 asked_within words Check h = tt
+asked_within words Run h = tt
+asked_within words (Explain n) h = explain_within words n h
 asked_within words Migrate h = tt
 asked_within words (Gen k) h = tt
 

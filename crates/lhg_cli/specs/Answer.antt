@@ -6,17 +6,19 @@ use Rattle.lhg_plant.specs.Plant.{PlainPlant}
 use Rattle.lhg_plant.specs.Proper.{IsProper}
 use Rattle.lhg_read.specs.PlantText.{IsPlantText, IsSomePlantText}
 use Rattle.lhg_row_text.specs.PrintedLine.{line}
-use Rattle.lhg_input.specs.Inputs.{IsControllerInput}
+use Rattle.lhg_input.specs.Inputs.{IsControllerInput, IsLogInput, IsStateInput}
 use Rattle.lhg_cli.specs.InputAnswer.{IsInput}
 use Rattle.lhg_cli.specs.Migration.{IsMigrateAnswer}
 use Rattle.lhg_cli.specs.PlantAnswer.{IsPlantAnswer}
 use Rattle.lhg_cli.specs.Refusal.{IsRefusal}
+use Rattle.lhg_cli.specs.RunAnswer.{IsRunAnswer}
 use Rattle.lhg_cli.specs.Settling.{IsSettled, IsUnsettled}
+use Rattle.lhg_cli.specs.StateAnswer.{IsExplainAnswer}
 use Rattle.lhg_cli.specs.Summary.{IsGenAnswer}
 use Rattle.lhg_cli.specs.Verdict.{IsCheckAnswer}
 use Rattle.lhg_cli.specs.Words.{Asks, AreKnown}
 use Rattle.lhg_cli.specs.declared.request.Request.{Request}
-use Rattle.lhg_cli.specs.declared.request.Request.TheVariants.{Synth, Check, Migrate, Gen}
+use Rattle.lhg_cli.specs.declared.request.Request.TheVariants.{Synth, Check, Run, Explain, Migrate, Gen}
 use Rattle.lhg_cli.specs.declared.status.Status.{Status}
 use Rattle.lhg_cli.specs.declared.status.Status.TheVariants as status
 
@@ -52,6 +54,8 @@ IsSynthAnswer n input status.Memory text = ⊥
 abbrev pub IsAnswerTo : Request → Option (List ℕ) → Status → List ℕ → Type 0
 IsAnswerTo (Synth n) input s text = IsSynthAnswer n input s text
 IsAnswerTo Check input s text = IsCheckAnswer input s text
+IsAnswerTo Run input s text = IsRunAnswer input s text
+IsAnswerTo (Explain n) input s text = IsExplainAnswer n input s text
 IsAnswerTo Migrate input s text = IsMigrateAnswer input s text
 IsAnswerTo (Gen k) input s text = IsGenAnswer k s text
 
@@ -82,6 +86,8 @@ IsAnswered status.Memory = ⊥
 abbrev pub IsTextFor : Request → List ℕ → Type 0
 IsTextFor (Synth n) bytes = IsPlantInput bytes
 IsTextFor Check bytes = IsInput IsControllerInput bytes
+IsTextFor Run bytes = IsInput IsLogInput bytes
+IsTextFor (Explain n) bytes = IsInput IsStateInput bytes
 IsTextFor Migrate bytes = IsInput IsControllerInput bytes
 IsTextFor (Gen k) bytes = Unit {0}
 

@@ -1,5 +1,5 @@
 -- Which text tells the run of a controller that is written over a log, with which status?
-use Rattle.std.specs.Prelude.{◌≡◌, ◌⊎◌, ℕ, List, ◌++◌, codes, decimal, Some, None}
+use Rattle.std.specs.Prelude.{◌≡◌, ◌⊎◌, ℕ, List, ◌++◌, codes, decimal, Option, Some, None}
 use Rattle.lhg_plant.specs.Controller.{PlainController, IsValid}
 use Rattle.lhg_plant.specs.Log.{IsLegalLog, IsFirstIllegal}
 use Rattle.lhg_plant.specs.Plant.{PlainPlant}
@@ -11,6 +11,8 @@ use Rattle.lhg_ctl.specs.LogText.{PlainLog}
 use Rattle.lhg_run.specs.Answers.{IsTraceOf, IsTraceBefore}
 use Rattle.lhg_run.specs.Numbers.{IsWideAt, IsLongAt}
 use Rattle.lhg_text.specs.TraceText.{trace_text}
+use Rattle.lhg_input.specs.Inputs.{IsLogInput}
+use Rattle.lhg_cli.specs.InputAnswer.{IsInput, IsBytesAnswer, HasAnswer}
 use Rattle.lhg_cli.specs.Verdict.{controller_in, KeepsWritten, IsVerdictLine, IsCheckStop, IsWithinCheck}
 use Rattle.lhg_cli.specs.declared.status.Status.{Status}
 use Rattle.lhg_cli.specs.declared.status.Status.TheVariants as status
@@ -73,12 +75,28 @@ pub record IsRunOf (input : (PlainPlant × PlainDraft) × PlainLog) (s : Status)
 abbrev pub IsRan : (PlainPlant × PlainDraft) × PlainLog → Status → List ℕ → Type 0
 IsRan input s text = IsCheckNo input.0 s text ⊎ IsRunOf input s text
 
+-- the text that stands for the status where a controller is to run over a log
+abbrev pub IsRunAnswer : Option (List ℕ) → Status → List ℕ → Type 0
+IsRunAnswer input s text = HasAnswer (λ bytes. IsBytesAnswer IsLogInput IsRan bytes s text) input
+
 -- ---- where an answer is sure
 -- the check stays within its limits, and so does each entry to which the run comes
 pub record IsWithinRun (input : (PlainPlant × PlainDraft) × PlainLog) : Type 0 where
   pub check : IsWithinCheck input.0
   pub numbers : (k : ℕ) → ¬ IsWideAt input.0.0 (controller_in input.0) input.1.start input.1.entries k
   pub rows : (k : ℕ) → ¬ IsLongAt input.0.0 (controller_in input.0) input.1.start input.1.entries k
+
+-- the input is a plant, a valid controller and a log, and no limit is passed
+pub record IsRunnable (bytes : List ℕ) : Type 0 where
+  pub input : IsInput IsLogInput bytes
+  pub limits : IsWithinRun input.value
+  pub valid : IsValid input.value.0.0 (controller_in input.value.0)
+
+-- the input is a plant, a controller that is not valid, and a log, and the check stays within its limits
+pub record IsUnrunnable (bytes : List ℕ) : Type 0 where
+  pub input : IsInput IsLogInput bytes
+  pub limits : IsWithinCheck input.value.0
+  pub fails : ¬ IsValid input.value.0.0 (controller_in input.value.0)
 
 -- yes where the log is legal, and else no
 abbrev pub IsSureRun : (PlainPlant × PlainDraft) × PlainLog → Status → Type 0

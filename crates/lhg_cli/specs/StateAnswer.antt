@@ -1,5 +1,5 @@
 -- Which text tells what becomes of a state of a plant within a budget of rounds, with which status?
-use Rattle.std.specs.Prelude.{◌≡◌, ◌<◌, ◌≤◌, ◌⊎◌, ℕ, Bool, true, false, List, ◌++◌, codes, decimal}
+use Rattle.std.specs.Prelude.{◌≡◌, ◌<◌, ◌≤◌, ◌⊎◌, ℕ, Bool, true, false, List, ◌++◌, codes, decimal, Option}
 use Rattle.lhg_num.specs.FracArithmetic.{frac_arithmetic}
 use Rattle.lhg_num.specs.Marked.{Marked, valued}
 use Rattle.lhg_plant.specs.LegalTruths.{state_truth}
@@ -17,6 +17,8 @@ use Rattle.lhg_explain.specs.Explained.{IsExplained}
 use Rattle.lhg_row_text.specs.PrintedLine.{line}
 use Rattle.lhg_row_text.specs.PointText.{state_text}
 use Rattle.lhg_text.specs.EscapeText.{escape_text}
+use Rattle.lhg_input.specs.Inputs.{IsStateInput}
+use Rattle.lhg_cli.specs.InputAnswer.{IsInput, IsBytesAnswer, HasAnswer}
 use Rattle.lhg_cli.specs.declared.status.Status.{Status}
 use Rattle.lhg_cli.specs.declared.status.Status.TheVariants as status
 
@@ -92,6 +94,10 @@ IsStateAnswer budget (a, z) status.Read text = ⊥
 IsStateAnswer budget (a, z) status.Write text = ⊥
 IsStateAnswer budget (a, z) status.Memory text = ⊥
 
+-- the same for an input
+abbrev pub IsExplainAnswer : ℕ → Option (List ℕ) → Status → List ℕ → Type 0
+IsExplainAnswer budget input s text = HasAnswer (λ bytes. IsBytesAnswer IsStateInput (IsStateAnswer budget) bytes s text) input
+
 -- ---- where an answer is sure
 -- no number at the asked state is too wide; no limit is passed in the work of a round up to the one that decides, nor by an explanation
 pub record IsWithinSeek (budget : ℕ) (input : PlainPlant × PlainState) : Type 0 where
@@ -103,6 +109,11 @@ pub record IsWithinSeek (budget : ℕ) (input : PlainPlant × PlainState) : Type
   pub pieces : (i : ℕ) → i ≤ budget → IsUndecided input.0 i input.1 → (seek_work input.0 budget input.1 i).pieces ≡ false
   pub explained_numbers : (m : ℕ) (losses : List PlainLoss) → IsLost input.0 budget m losses input.1 → (explanation input.0 losses m input.1).wide ≡ false
   pub explained_rows : (m : ℕ) (losses : List PlainLoss) → IsLost input.0 budget m losses input.1 → (explanation input.0 losses m input.1).rows ≡ false
+
+-- the input is a plant and a state, and no limit is passed
+pub record IsExplainable (budget : ℕ) (bytes : List ℕ) : Type 0 where
+  pub input : IsInput IsStateInput bytes
+  pub limits : IsWithinSeek budget input.value
 
 -- each round up to the budget removes a state, and the asked one is in the last
 pub record IsStillIn (budget : ℕ) (input : PlainPlant × PlainState) : Type 0 where

@@ -2,7 +2,7 @@
 use Rattle.std.specs.Prelude.{◌≡◌, ◌≤◌, ◌⊎◌, ℕ, List, [], ◌∷◌, codes, decimal}
 use Rattle.lhg_gen.specs.Sizes.{IsSize}
 use Rattle.lhg_cli.specs.declared.request.Request.{Request}
-use Rattle.lhg_cli.specs.declared.request.Request.TheVariants.{Synth, Check, Migrate, Gen}
+use Rattle.lhg_cli.specs.declared.request.Request.TheVariants.{Synth, Check, Run, Explain, Migrate, Gen}
 
 -- the number of rounds where the words name none, and the largest that they may name
 abbrev pub usual_budget : ℕ
@@ -15,6 +15,10 @@ most_rounds = 1000
 abbrev pub AsksSynth : List (List ℕ) → ℕ → Type 0
 AsksSynth words n = ((words ≡ codes "synth" ∷ []) × (n ≡ usual_budget)) ⊎ ((words ≡ codes "synth" ∷ decimal n ∷ []) × (1 ≤ n) × (n ≤ most_rounds))
 
+-- what becomes of a state is asked for, within n rounds: `explain` or `explain N`, in the same way
+abbrev pub AsksExplain : List (List ℕ) → ℕ → Type 0
+AsksExplain words n = ((words ≡ codes "explain" ∷ []) × (n ≡ usual_budget)) ⊎ ((words ≡ codes "explain" ∷ decimal n ∷ []) × (1 ≤ n) × (n ≤ most_rounds))
+
 -- the summary of a generated plant with k locations is asked for: `gen K`, K being k in decimal, from 1 to 64
 abbrev pub AsksGen : List (List ℕ) → ℕ → Type 0
 AsksGen words k = (words ≡ codes "gen" ∷ decimal k ∷ []) × IsSize k
@@ -23,6 +27,8 @@ AsksGen words k = (words ≡ codes "gen" ∷ decimal k ∷ []) × IsSize k
 abbrev pub Asks : List (List ℕ) → Request → Type 0
 Asks words (Synth n) = AsksSynth words n
 Asks words Check = words ≡ codes "check" ∷ []
+Asks words Run = words ≡ codes "run" ∷ []
+Asks words (Explain n) = AsksExplain words n
 Asks words Migrate = words ≡ codes "migrate" ∷ []
 Asks words (Gen k) = AsksGen words k
 
@@ -34,6 +40,8 @@ AreKnown words = (r : Request) × Asks words r
 abbrev pub NeedsInput : Request → Type 0
 NeedsInput (Synth n) = Unit {0}
 NeedsInput Check = Unit {0}
+NeedsInput Run = Unit {0}
+NeedsInput (Explain n) = Unit {0}
 NeedsInput Migrate = Unit {0}
 NeedsInput (Gen k) = ⊥
 
@@ -45,5 +53,7 @@ AskForInput words = (r : Request) × Asks words r × NeedsInput r
 abbrev pub HasRounds : Request → Type 0
 HasRounds (Synth n) = (1 ≤ n) × (n ≤ most_rounds)
 HasRounds Check = Unit {0}
+HasRounds Run = Unit {0}
+HasRounds (Explain n) = (1 ≤ n) × (n ≤ most_rounds)
 HasRounds Migrate = Unit {0}
 HasRounds (Gen k) = Unit {0}

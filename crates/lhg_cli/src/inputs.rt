@@ -7,8 +7,10 @@ ghost use Rattle.lhg_cli.specs.Words.{NeedsInput, HasRounds};
 use crate::Status;
 use crate::answers::too_long;
 use crate::checking::checked;
+use crate::explaining::explained;
 use crate::migrating::migrated;
 use crate::request::Request;
+use crate::running::ran;
 use crate::solving::Answer;
 use crate::synthesis::synth_of;
 use lhg_io::{INPUT_LIMIT, ReadAll, Source, read_all};
@@ -24,6 +26,8 @@ fn answer_of(alloc: Global, request: Request, bytes: &[u8]) -> Result<Answer, Al
     match request {
         Request::Synth(rounds) => synth_of(alloc, rounds, bytes),
         Request::Check => checked(alloc, bytes),
+        Request::Run => ran(alloc, bytes),
+        Request::Explain(rounds) => explained(alloc, rounds, bytes),
         Request::Migrate => migrated(alloc, bytes),
         Request::Gen(_) => unreachable!(),
     }

@@ -7,6 +7,10 @@ pub enum Request {
     Synth(u32),
     /// Whether the controller of the input is valid for its plant.
     Check,
+    /// The run of the controller of the input over its log.
+    Run,
+    /// What becomes of the state of the input, within so many rounds.
+    Explain(u32),
     /// The controller of the input, in the latest version of its text.
     Migrate,
     /// A summary of the generated plant with so many locations.

@@ -4,9 +4,11 @@ ghost use Rattle.std.specs.Io.KnownBytes.{Appends};
 ghost use Rattle.lhg_io.specs.Faults.{Rose};
 ghost use Rattle.lhg_gen.specs.GeneratedPlant.{generated_plant};
 ghost use Rattle.lhg_cli.specs.Answer.{IsAnswer, IsReadToEnd, IsAnswered, IsTextFor, IsSolvable, IsUsedUp};
+ghost use Rattle.lhg_cli.specs.RunAnswer.{IsRunnable, IsUnrunnable, IsSureRun};
 ghost use Rattle.lhg_cli.specs.Settling.{IsWithin};
+ghost use Rattle.lhg_cli.specs.StateAnswer.{IsExplainable, IsSureStatus};
 ghost use Rattle.lhg_cli.specs.Verdict.{IsValidInput, IsInvalidInput};
-ghost use Rattle.lhg_cli.specs.Words.{Asks, AsksSynth, AsksGen, AreKnown, AskForInput, most_rounds};
+ghost use Rattle.lhg_cli.specs.Words.{Asks, AsksSynth, AsksExplain, AsksGen, AreKnown, AskForInput, most_rounds};
 
 use crate::Status;
 use crate::answers::usage;
@@ -86,6 +88,14 @@ pub fn lhg<S: Source, K: Sink>(
         → ¬ Rose (S.faults source.old) (S.faults source.new) → ¬ Rose (K.faults sink.old) (K.faults sink.new) → (result ≡ Status.No) ⊎ (result ≡ Status.Memory)) }
     ensures migrated { Asks (map (λ w. string_bytes w) words.now) Request.Migrate → IfSome (S.left source.old) (λ bytes. IsTextFor Request.Migrate bytes
         → ¬ Rose (S.faults source.old) (S.faults source.new) → ¬ Rose (K.faults sink.old) (K.faults sink.new) → (result ≡ Status.Done) ⊎ (result ≡ Status.Memory)) }
+    // a valid controller has a yes to a log that is legal and a no to any other, and one that is not valid a no
+    ensures ran { Asks (map (λ w. string_bytes w) words.now) Request.Run → IfSome (S.left source.old) (λ bytes. (t : IsRunnable bytes)
+        → ¬ Rose (S.faults source.old) (S.faults source.new) → ¬ Rose (K.faults sink.old) (K.faults sink.new) → IsSureRun t.input.value result ⊎ (result ≡ Status.Memory)) }
+    ensures unrun { Asks (map (λ w. string_bytes w) words.now) Request.Run → IfSome (S.left source.old) (λ bytes. IsUnrunnable bytes
+        → ¬ Rose (S.faults source.old) (S.faults source.new) → ¬ Rose (K.faults sink.old) (K.faults sink.new) → (result ≡ Status.No) ⊎ (result ≡ Status.Memory)) }
+    // what becomes of a state is told, unless each round within the budget removes a state and the asked one is in the last
+    ensures explained { (n : ℕ) → AsksExplain (map (λ w. string_bytes w) words.now) n → IfSome (S.left source.old) (λ bytes. (t : IsExplainable n bytes)
+        → ¬ Rose (S.faults source.old) (S.faults source.new) → ¬ Rose (K.faults sink.old) (K.faults sink.new) → IsSureStatus n t.input.value result ⊎ (result ≡ Status.Memory)) }
     // where the sink does not fail, a generated plant has its summary, where the calculus stays within its limits; unless memory runs out
     ensures generated { (k : ℕ) → AsksGen (map (λ w. string_bytes w) words.now) k → IsWithin (generated_plant k) most_rounds
         → ¬ Rose (K.faults sink.old) (K.faults sink.new) → (result ≡ Status.Done) ⊎ (result ≡ Status.Memory) }

@@ -35,6 +35,9 @@ fn with_number(word: &str, number: &str) -> Option<Request>
     if word == "synth" {
         let rounds = number_up_to(MOST_ROUNDS, number)?;
         Some(Request::Synth(rounds))
+    } else if word == "explain" {
+        let rounds = number_up_to(MOST_ROUNDS, number)?;
+        Some(Request::Explain(rounds))
     } else if word == "gen" {
         let locations = number_up_to(MOST_GENERATED, number)?;
         Some(Request::Gen(locations))
@@ -52,6 +55,10 @@ fn alone(word: &str) -> Option<Request>
         Some(Request::Synth(USUAL_BUDGET))
     } else if word == "check" {
         Some(Request::Check)
+    } else if word == "run" {
+        Some(Request::Run)
+    } else if word == "explain" {
+        Some(Request::Explain(USUAL_BUDGET))
     } else if word == "migrate" {
         Some(Request::Migrate)
     } else {

@@ -1,8 +1,12 @@
 use Rattle.lhg_cli.specs.Answer.{IsSolvable, IsTextFor, IsUsedUp}
+use Rattle.std.proofs.Common.{◌≡◌, ◌⊎◌}
+use Rattle.lhg_cli.specs.RunAnswer.{IsRunnable, IsUnrunnable, IsSureRun}
+use Rattle.lhg_cli.specs.StateAnswer.{IsExplainable, IsSureStatus}
 use Rattle.lhg_cli.specs.Verdict.{IsValidInput, IsInvalidInput}
+use Rattle.lhg_cli.specs.declared.status.Status.TheVariants as status
 use Rattle.lhg_cli.specs.declared.request.Request.TheVariants.{Migrate}
-use Rattle.lhg_cli.proofs.AnswerSteps.{faulted}
-use Rattle.lhg_cli.proofs.Complete.{complete, used_up, refused, valid, invalid, migrated, generated}
+use Rattle.lhg_cli.proofs.AnswerSteps.{faulted, faulted_for}
+use Rattle.lhg_cli.proofs.Complete.{complete, used_up, refused, valid, invalid, migrated, ran, unrun, explained, generated}
 use Rattle.lhg_cli.proofs.top.lhg.Goals as goal
 
 pub returns-in-Ok-write_all-clause-complete : goal.returns-in-Ok-write_all-clause-complete
@@ -22,6 +26,15 @@ returns-in-Ok-write_all-clause-invalid g c = invalid _ _ _ _ _ _ c.in-Ok.ensures
 
 pub returns-in-Ok-write_all-clause-migrated : goal.returns-in-Ok-write_all-clause-migrated
 returns-in-Ok-write_all-clause-migrated g c = migrated _ _ _ _ _ _ c.in-Ok.ensures.ok
+
+pub returns-in-Ok-write_all-clause-ran : goal.returns-in-Ok-write_all-clause-ran
+returns-in-Ok-write_all-clause-ran g c = ran _ _ _ _ _ _ c.in-Ok.ensures.ok
+
+pub returns-in-Ok-write_all-clause-unrun : goal.returns-in-Ok-write_all-clause-unrun
+returns-in-Ok-write_all-clause-unrun g c = unrun _ _ _ _ _ _ c.in-Ok.ensures.ok
+
+pub returns-in-Ok-write_all-clause-explained : goal.returns-in-Ok-write_all-clause-explained
+returns-in-Ok-write_all-clause-explained g c = explained _ _ _ _ _ _ c.in-Ok.ensures.ok
 
 pub returns-in-Ok-write_all-clause-generated : goal.returns-in-Ok-write_all-clause-generated
 returns-in-Ok-write_all-clause-generated g c = λ k asked within calm. generated _ _ _ _ c.in-Ok.ensures.ok k asked within
@@ -44,6 +57,15 @@ returns-in-Ok-clause-invalid g c = λ asked. faulted _ _ IsInvalidInput _ c.in-E
 
 pub returns-in-Ok-clause-migrated : goal.returns-in-Ok-clause-migrated
 returns-in-Ok-clause-migrated g c = λ asked. faulted _ _ (λ bytes. IsTextFor Migrate bytes) _ c.in-Err-write_all.ensures.fault
+
+pub returns-in-Ok-clause-ran : goal.returns-in-Ok-clause-ran
+returns-in-Ok-clause-ran g c = λ asked. faulted_for _ IsRunnable (λ bytes t. IsSureRun t.input.value status.Write ⊎ (status.Write ≡ status.Memory)) _ c.in-Err-write_all.ensures.fault
+
+pub returns-in-Ok-clause-unrun : goal.returns-in-Ok-clause-unrun
+returns-in-Ok-clause-unrun g c = λ asked. faulted _ _ IsUnrunnable _ c.in-Err-write_all.ensures.fault
+
+pub returns-in-Ok-clause-explained : goal.returns-in-Ok-clause-explained
+returns-in-Ok-clause-explained g c = λ n asked. faulted_for _ (IsExplainable n) (λ bytes t. IsSureStatus n t.input.value status.Write ⊎ (status.Write ≡ status.Memory)) _ c.in-Err-write_all.ensures.fault
 
 pub returns-in-Ok-clause-generated : goal.returns-in-Ok-clause-generated
 returns-in-Ok-clause-generated g c = λ k asked within calm. absurd (calm c.in-Err-write_all.ensures.fault)
