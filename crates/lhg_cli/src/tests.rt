@@ -308,12 +308,14 @@ fn generated(rt: HostRuntime) -> Result<(), Fail> {
     Ok(())
 }
 
-const OTHER_WORDS: [&[&str]; 15] = [
+const OTHER_WORDS: [&[&str]; 17] = [
     &[],
     &["check", "1"],
     &["migrate", "2"],
     &["check", "migrate"],
     &["explains"],
+    &["explain", "0"],
+    &["run", "1"],
     &["synth", "0"],
     &["synth", "01"],
     &["synth", "1001"],
