@@ -10,7 +10,7 @@ const USAGE: &[u8] = b"usage: lhg synth [N] | check | run | explain [N] | gen K 
 
 pub(crate) const SYNTH: &[&str] = &["synth"];
 
-pub(crate) const NEVER: u32 = 9_999;
+pub(crate) const NEVER: u32 = u32::MAX;
 
 fn all_words(alloc: Global, words: &[&str]) -> Result<Vec<String>, AllocError> {
     let mut all = Vec::new(alloc);
@@ -32,7 +32,7 @@ pub(crate) fn run(
     let read_fails = [read_fails].to_vec(alloc)?;
     let write_fails = [write_fails].to_vec(alloc)?;
     let mut source = MemSource::new(input.to_vec(alloc)?, 4096, read_fails);
-    let mut sink = MemSink::new(alloc, 16_384, 10, write_fails)?;
+    let mut sink = MemSink::new(alloc, 524_288, 10, write_fails)?;
     let status = lhg(alloc, &words, &mut source, &mut sink);
     Ok((status, sink.held().to_vec(alloc)?))
 }
