@@ -7,19 +7,7 @@ ghost use Rattle.lhg_math.specs.Number.{flip_sign};
 ghost use Rattle.lhg_num.specs.Limits.{formed};
 ghost use Rattle.lhg_num.specs.Parts.{product_parts, both_of, sides_of, total_parts, reduced_parts, crossed_parts, lowest_parts};
 
-// The greatest common divisor, by Euclid's steps.
-fn gcd(a: u128, b: u128) -> u128
-    ensures { result ≡ spec.gcd a b }
-{
-    let mut x = a;
-    let mut y = b;
-    while y != 0 {
-        let rest = x % y;
-        x = y;
-        y = rest;
-    }
-    x
-}
+use crate::divisors::gcd;
 
 // The greatest common divisor of a numerator and a denominator.
 fn common(n: i128, d: i128) -> i128
