@@ -22,6 +22,9 @@ fn common(n: i128, d: i128) -> i128
 fn times(a: i128, b: i128) -> Option<i128>
     ensures { result ≡ formed (a *ℤ b) }
 {
+    if b == 1 && a != i128::MIN {
+        return Some(a);
+    }
     match a.checked_mul(b) {
         Some(product) if product != i128::MIN => Some(product),
         _ => None,
@@ -43,7 +46,7 @@ fn part(a: i128, g: i128) -> i128
     requires { pos 0 <ℤ g }
     ensures { result ≡ int_div a g }
 {
-    a / g
+    if g == 1 { a } else { a / g }
 }
 
 // Both numbers, where both were formed.
