@@ -1,4 +1,5 @@
 pub mod Commons
+pub mod Euclid
 pub mod Fields
 pub mod Formed
 pub mod Halted

@@ -7,19 +7,7 @@ ghost use Rattle.lhg_math.specs.Number.{flip_sign};
 ghost use Rattle.lhg_num.specs.Limits.{formed};
 ghost use Rattle.lhg_num.specs.Parts.{product_parts, both_of, sides_of, total_parts, reduced_parts, crossed_parts, lowest_parts};
 
-// The greatest common divisor, by Euclid's steps.
-fn gcd(a: u128, b: u128) -> u128
-    ensures { result ≡ spec.gcd a b }
-{
-    let mut x = a;
-    let mut y = b;
-    while y != 0 {
-        let rest = x % y;
-        x = y;
-        y = rest;
-    }
-    x
-}
+use crate::divisors::gcd;
 
 // The greatest common divisor of a numerator and a denominator.
 fn common(n: i128, d: i128) -> i128
@@ -34,6 +22,9 @@ fn common(n: i128, d: i128) -> i128
 fn times(a: i128, b: i128) -> Option<i128>
     ensures { result ≡ formed (a *ℤ b) }
 {
+    if b == 1 && a != i128::MIN {
+        return Some(a);
+    }
     match a.checked_mul(b) {
         Some(product) if product != i128::MIN => Some(product),
         _ => None,
@@ -55,7 +46,7 @@ fn part(a: i128, g: i128) -> i128
     requires { pos 0 <ℤ g }
     ensures { result ≡ int_div a g }
 {
-    a / g
+    if g == 1 { a } else { a / g }
 }
 
 // Both numbers, where both were formed.

@@ -9,7 +9,7 @@ use Rattle.lhg_math.specs.SignLaws.{nought_is}
 use Rattle.lhg_math.specs.Tests.{by_bool, false_true}
 use Rattle.lhg_num.specs.Arithmetic.{Arithmetic}
 use Rattle.lhg_row.specs.Row.{PlainRow, PlainPoint, row_value, value_at, holds_at}
-use Rattle.lhg_row.specs.Values.{marked_value, fits_order, truth}
+use Rattle.lhg_row.specs.Values.{plus_product, marked_value, fits_order, truth}
 
 -- ---- with marks
 -- the value that is formed with marks is the value
@@ -42,6 +42,15 @@ fits_order-compare strict v b =
 pub truth-value : (a : Arithmetic) (r : PlainRow) (x : PlainPoint) → (truth a r x).value ≡ holds_at r x
 truth-value a r x =
     ap (λ v. fits_order r.strict (compare v r.bound)) (marked_value-value a nought r.coefs x) ∙ fits_order-compare r.strict (value_at r x) r.bound
+
+-- ---- products that are 0
+-- where the factor is 0 nothing is added
+pub plus-no_multiple : (a : Arithmetic) (s c x : Number) → is_nought c ≡ true → s ≡ (plus_product a s c x).value
+plus-no_multiple a s c x h = sym (ap (λ w. add s (mul w x)) (nought_is c h) ∙ ap (λ w. add s w) (nought-mul x) ∙ add-nought s)
+
+-- where the entry is 0 nothing is added
+pub plus-no_entry : (a : Arithmetic) (s c x : Number) → is_nought x ≡ true → s ≡ (plus_product a s c x).value
+plus-no_entry a s c x h = sym (ap (λ w. add s (mul c w)) (nought_is x h) ∙ ap (λ w. add s w) (mul-nought c) ∙ add-nought s)
 
 -- ---- the start of the sum
 regroup : (s c x m : Number) → add (add s m) (mul c x) ≡ add (add s (mul c x)) m

@@ -90,8 +90,9 @@ fn place_along<N: Scalar>(kept: &[Row<N>], row: &Row<N>) -> Result<Option<usize>
     requires { AllWide (length row.now.coefs) kept.now }
     ensures { IsWideBy result (calculus.place_along N.arithmetic row.now 0 kept.now) (λ o. o) }
 {
+    let g = lead_size(row);
     for i in 0..kept.len() {
-        let same = same_direction(row, &kept[i])?;
+        let same = same_direction(row, &g, &kept[i])?;
         if same {
             return Ok(Some(i));
         }
@@ -99,14 +100,14 @@ fn place_along<N: Scalar>(kept: &[Row<N>], row: &Row<N>) -> Result<Option<usize>
     Ok(None)
 }
 
-// Whether the coefficients are the same after each row was multiplied by the size of the other's leading coefficient.
-fn same_direction<N: Scalar>(r: &Row<N>, s: &Row<N>) -> Result<bool, Wide>
-    requires { length r.now.coefs ≡ length s.now.coefs }
+// Whether the coefficients are the same after each row was multiplied by the size of the other's leading coefficient, which is g for r.
+fn same_direction<N: Scalar>(r: &Row<N>, g: &N, s: &Row<N>) -> Result<bool, Wide>
+    requires same { length r.now.coefs ≡ length s.now.coefs }
+    requires size { N.meaning g.now ≡ calculus.lead_size r.now }
     ensures { IsWideBy result (calculus.same_direction N.arithmetic r.now s.now) (λ b. b) }
 {
     let f = lead_size(s);
-    let g = lead_size(r);
-    agree(Sense::Same, &f, &g, &r.coefs, &s.coefs)
+    agree(Sense::Same, &f, g, &r.coefs, &s.coefs)
 }
 
 // Makes a kept row the tighter of it and another row of its direction.

@@ -89,10 +89,16 @@ pub fn value_from<N: Scalar>(start: N, coefs: &[N], at: &[N]) -> Result<N, Wide>
     Ok(sum)
 }
 
-/// sum + c * x. It answers `Wide` only where the type refuses the product or the sum.
+/// sum + c * x, which is the sum where c or x is 0. It answers `Wide` only where the type refuses the product or the sum.
 pub fn plus_product<N: Scalar>(sum: &N, c: &N, x: &N) -> Result<N, Wide>
     ensures { IsWideBy result (calculus.plus_product N.arithmetic (N.meaning sum.now) (N.meaning c.now) (N.meaning x.now)) N.meaning }
 {
+    if c.is_zero() {
+        return Ok(*sum);
+    }
+    if x.is_zero() {
+        return Ok(*sum);
+    }
     let product = c.mul(x)?;
     sum.add(&product)
 }

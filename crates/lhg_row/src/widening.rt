@@ -19,7 +19,8 @@ pub fn widen<N: Scalar>(
 ) -> Result<Row<N>, Halt>
     ensures { IsHaltedByMemory result (done (widened before after row.now)) (λ r. r) }
 {
-    let mut coefs = Vec::new(alloc);
+    let many = row.coefs.len().saturating_add(before);
+    let mut coefs = Vec::with_capacity(alloc, many.saturating_add(after))?;
     push_noughts(&mut coefs, before)?;
     coefs.extend_from_slice(&row.coefs)?;
     push_noughts(&mut coefs, after)?;

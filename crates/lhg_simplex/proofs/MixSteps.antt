@@ -4,12 +4,10 @@ use Rattle.std.proofs.lemmas.List.{drop_all}
 use Rattle.std.specs.Prelude.{cond}
 use Rattle.std.specs.declared.cmp.Ordering.{Ordering}
 use Rattle.std.specs.declared.cmp.Ordering.TheVariants.{Less, Equal, Greater}
-use Rattle.lhg_math.specs.Number.{Number, add, mul, lt, nought, sign_of}
+use Rattle.lhg_math.specs.Number.{Number, lt, nought, sign_of}
 use Rattle.lhg_math.specs.NumberOrder.{lt_asym}
-use Rattle.lhg_math.specs.NumberRing.{add-nought, mul-nought, nought-mul}
 use Rattle.lhg_math.specs.Signs.{is_nought}
 use Rattle.lhg_math.specs.Tests.{by_bool}
-use Rattle.lhg_math.specs.SignLaws.{nought_is}
 use Rattle.lhg_num.specs.Arithmetic.{Arithmetic}
 use Rattle.lhg_num.specs.Marked.{Marked, valued, IsRest}
 use Rattle.lhg_num.specs.MarkedLaws.{IsPart}
@@ -48,14 +46,6 @@ pub strict-end : (ms : List Number) (rows : PlainPiece) (i : ℕ) → length ms 
 strict-end ms rows i h = ap (λ ys. mixes_strict ys (drop i rows)) (drop_all i ms h)
 
 -- ---- sums
--- where the multiplier is 0 nothing is added
-pub plus-no_multiple : (a : Arithmetic) (s m x : Number) → is_nought m ≡ true → s ≡ (plus_product a s m x).value
-plus-no_multiple a s m x h = sym (ap (λ w. add s (mul w x)) (nought_is m h) ∙ ap (λ w. add s w) (nought-mul x) ∙ add-nought s)
-
--- where the entry is 0 nothing is added
-pub plus-no_entry : (a : Arithmetic) (s m x : Number) → is_nought x ≡ true → s ≡ (plus_product a s m x).value
-plus-no_entry a s m x h = sym (ap (λ w. add s (mul m w)) (nought_is x h) ∙ ap (λ w. add s w) (mul-nought m) ∙ add-nought s)
-
 -- whether the bound of a row without coefficients makes it false, by its sign
 abbrev pub told : Bool → Ordering → Bool
 told strict Less = true

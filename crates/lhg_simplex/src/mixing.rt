@@ -4,11 +4,10 @@ ghost use Rattle.lhg_math.specs.Signs.{is_nought};
 ghost use Rattle.lhg_num.specs.Halting.{IsWideBy};
 ghost use Rattle.lhg_row.specs.Column.{coef_at};
 ghost use Rattle.lhg_row.specs.Width.{AllWide, HasVariable};
-ghost use Rattle.lhg_row.specs.Values.{plus_product};
 ghost use Rattle.lhg_simplex.specs.Mixed as calculus;
 
 use lhg_num::{Scalar, Wide};
-use lhg_row::Row;
+use lhg_row::{Row, plus_product};
 use std::cmp::Ordering;
 
 /// Whether no multiplier is negative.
@@ -67,7 +66,7 @@ fn mixed_coefs<N: Scalar>(k: usize, ms: &[N], rows: &[Row<N>]) -> Result<N, Wide
     let mut sum = N::zero();
     for i in 0..rows.len() {
         let x = coef(&rows[i], k);
-        sum = plus_multiple(&sum, &ms[i], &x)?;
+        sum = plus_product(&sum, &ms[i], &x)?;
     }
     Ok(sum)
 }
@@ -80,7 +79,7 @@ pub(crate) fn mixed_bounds<N: Scalar>(ms: &[N], rows: &[Row<N>]) -> Result<N, Wi
     let mut sum = N::zero();
     for i in 0..rows.len() {
         let x = bound(&rows[i]);
-        sum = plus_multiple(&sum, &ms[i], &x)?;
+        sum = plus_product(&sum, &ms[i], &x)?;
     }
     Ok(sum)
 }
@@ -98,20 +97,6 @@ fn bound<N: Scalar>(row: &Row<N>) -> N
     ensures { N.meaning result ≡ calculus.bound_of row.now }
 {
     row.bound
-}
-
-// sum + m * x, which is the sum where m or x is 0. It answers `Wide` only where the type refuses the product or the sum.
-fn plus_multiple<N: Scalar>(sum: &N, m: &N, x: &N) -> Result<N, Wide>
-    ensures { IsWideBy result (plus_product N.arithmetic (N.meaning sum.now) (N.meaning m.now) (N.meaning x.now)) N.meaning }
-{
-    if m.is_zero() {
-        return Ok(*sum);
-    }
-    if x.is_zero() {
-        return Ok(*sum);
-    }
-    let product = m.mul(x)?;
-    sum.add(&product)
 }
 
 /// Whether a row without coefficients is false with this bound.

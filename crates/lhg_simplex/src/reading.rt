@@ -4,8 +4,8 @@ ghost use Rattle.lhg_simplex.specs.Hint.{HaltsForMemory};
 
 use crate::guesses::Guess;
 use crate::solving::Search;
-use crate::whole::{common, cross, negative, over, signed};
-use lhg_num::{Frac, Halt, Scalar};
+use crate::whole::{cross, negative, over, signed};
+use lhg_num::{Frac, Halt, Scalar, gcd};
 use lhg_row::Point;
 use std::alloc::Global;
 
@@ -80,7 +80,7 @@ fn small(search: &Search) -> Option<(i128, i128)> {
             let step = negative(part)?;
             let bound = row[vars];
             if cross(bound, q, p, step)? < 0 {
-                let g = signed(common(bound.unsigned_abs(), step.unsigned_abs()))?;
+                let g = signed(gcd(bound.unsigned_abs(), step.unsigned_abs()))?;
                 p = over(bound, g);
                 q = over(step, g);
             }

@@ -7,8 +7,8 @@
 ghost use Rattle.std.specs.Prelude.{◌≡◌, ◌<◌, ◌≤◌, ◌+◌, ◌*◌, vec_len, length, IfOk, IfSome};
 ghost use Rattle.lhg_simplex.specs.Hint.{HaltsForMemory};
 
-use crate::whole::{common, cross, negative, over, signed};
-use lhg_num::Halt;
+use crate::whole::{cross, negative, over, signed};
+use lhg_num::{Halt, gcd};
 use std::alloc::Global;
 
 /// The equations, row by row: an entry for each name beside, then the bound, the small part and the factor.
@@ -117,7 +117,7 @@ fn combine(row: &mut [i128], turned: &[i128], c: usize) -> Option<()>
         return Some(());
     }
     let p = turned[last];
-    let g = signed(common(p.unsigned_abs(), f.unsigned_abs()))?;
+    let g = signed(gcd(p.unsigned_abs(), f.unsigned_abs()))?;
     let p = over(p, g);
     let f = over(f, g);
     row[c] = 0;
@@ -138,7 +138,7 @@ fn reduce(row: &mut [i128]) -> Option<()> {
         if g == 1 {
             return Some(());
         }
-        g = common(g, x.unsigned_abs());
+        g = gcd(g, x.unsigned_abs());
     }
     let g = signed(g)?;
     for j in 0..row.len() {

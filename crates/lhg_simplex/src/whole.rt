@@ -1,37 +1,5 @@
 // Whole numbers that may grow past 128 bits: then there is no answer.
-use lhg_num::Frac;
-
-// The greatest common divisor.
-fn gcd(a: u128, b: u128) -> u128 {
-    let mut x = a;
-    let mut y = b;
-    while y != 0 {
-        let rest = x % y;
-        x = y;
-        y = rest;
-    }
-    x
-}
-
-// The greatest common divisor of numbers of one word.
-fn gcd_word(a: u64, b: u64) -> u64 {
-    let mut x = a;
-    let mut y = b;
-    while y != 0 {
-        let rest = x % y;
-        x = y;
-        y = rest;
-    }
-    x
-}
-
-/// The greatest common divisor, by words where both are words.
-pub(crate) fn common(a: u128, b: u128) -> u128 {
-    match (u64::try_from(a), u64::try_from(b)) {
-        (Ok(x), Ok(y)) => gcd_word(x, y) as u128,
-        _ => gcd(a, b),
-    }
-}
+use lhg_num::{Frac, gcd};
 
 /// The number without a common divisor, which is exact.
 pub(crate) fn over(a: i128, g: i128) -> i128 {
@@ -63,7 +31,7 @@ pub(crate) fn multiple(a: i128, d: i128) -> Option<i128> {
     if d == 1 {
         return Some(a);
     }
-    let g = signed(common(a.unsigned_abs(), d.unsigned_abs()))?;
+    let g = signed(gcd(a.unsigned_abs(), d.unsigned_abs()))?;
     a.checked_mul(over(d, g))
 }
 

@@ -4,8 +4,8 @@ ghost use Rattle.std.specs.Int.RustNames.{int_div};
 ghost use Rattle.lhg_math.specs.Number.{whole};
 ghost use Rattle.lhg_whole.specs.Content as spec;
 
-use crate::numbers::gcd;
 use crate::whole::Whole;
+use lhg_num::gcd;
 
 /// The greatest common divisor of the entries, and 0 where all are 0.
 pub fn content(row: &[Whole]) -> Whole

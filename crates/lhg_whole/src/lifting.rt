@@ -13,9 +13,9 @@ ghost use Rattle.lhg_whole.specs.Lifting as spec;
 ghost use Rattle.lhg_whole.specs.Lifting.{IsCoprime, IsExactOrMemory, common_multiple, passes_from, passes_times, lift_refuses, lifted};
 
 use crate::contents::scale_row;
-use crate::numbers::{gcd, times};
+use crate::numbers::times;
 use crate::whole::Whole;
-use lhg_num::{Frac, Halt, Scalar, Wide};
+use lhg_num::{Frac, Halt, Scalar, Wide, gcd};
 use std::alloc::Global;
 
 const LIMIT: u128 = i128::MAX as u128;

@@ -1,22 +1,7 @@
-// Sums and products within the limit, and common divisors.
+// Sums and products within the limit.
 ghost use Rattle.std.specs.Prelude.{◌≡◌, ◌+ℤ◌, ◌*ℤ◌};
 ghost use Rattle.std.specs.Ordering.{int_eq};
-ghost use Rattle.lhg_math.specs.Gcd as spec;
 ghost use Rattle.lhg_num.specs.Limits.{formed};
-
-// The greatest common divisor, by Euclid's steps.
-pub(crate) fn gcd(a: u128, b: u128) -> u128
-    ensures { result ≡ spec.gcd a b }
-{
-    let mut x = a;
-    let mut y = b;
-    while y != 0 {
-        let rest = x % y;
-        x = y;
-        y = rest;
-    }
-    x
-}
 
 // The product, where its size is at most 2^127 - 1.
 pub(crate) fn times(a: i128, b: i128) -> Option<i128>

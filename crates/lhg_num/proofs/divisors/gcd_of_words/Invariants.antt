@@ -1,6 +1,6 @@
 use Rattle.std.proofs.Common.{◌≡◌}
 use Rattle.lhg_math.specs.Gcd.{gcd}
-use Rattle.lhg_num.proofs.parts.gcd.Given as goal
+use Rattle.lhg_num.proofs.divisors.gcd_of_words.Given as goal
 
 abbrev pub invariant-loop-y : goal.invariant-loop-y
 invariant-loop-y l = gcd l.x l.y ≡ gcd l.fn.a l.fn.b
