@@ -119,7 +119,7 @@ module _ (a : PlainPlant) (proper : IsProper a) (region : PlainRegion) (shape : 
 
 -- ---- the solution
 -- its guards are those of its region
-abbrev HasGuards : PlainPlant → PlainSolution → Type 0
+abbrev pub HasGuards : PlainPlant → PlainSolution → Type 0
 HasGuards a (solved rounds region g losses) = g ≡ (guards a region).value
 HasGuards a (spent s) = Unit {0}
 
@@ -131,7 +131,8 @@ guards_within (suc left) a i s =
     (λ e. subst (λ b. HasGuards a (cond b (solved_by a (suc i) t).value (solution_within left a (suc i) t))) (sym e) refl)
     (λ e. subst (λ b. HasGuards a (cond b (solved_by a (suc i) t).value (solution_within left a (suc i) t))) (sym e) (guards_within left a (suc i) t))
 
-solution_guards : (a : PlainPlant) (budget : ℕ) → HasGuards a (solution a budget)
+-- so it is of the solution of each budget
+pub solution_guards : (a : PlainPlant) (budget : ℕ) → HasGuards a (solution a budget)
 unfolding solution
 solution_guards a budget = guards_within budget a 0 (stage a 0).value
 

@@ -1,14 +1,12 @@
 -- What is an answer to a plant, to a source that may not tell its bytes, and to words?
-use Rattle.std.proofs.Common.{◌≡◌, ◌<◌, ◌⊎◌, ℕ, List, length, codes, Option, Some, None, IfSome, Result, Ok, Err, IfOk, inl, inr, refl, ◌∙◌, subst}
+use Rattle.std.proofs.Common.{◌≡◌, ◌<◌, ℕ, List, length, codes, Option, Some, None, IfSome, Result, Ok, Err, IfOk, inl, inr, refl, subst}
 use Rattle.lhg_lex.specs.Lines.{most_bytes}
 use Rattle.lhg_plant.specs.Plant.{PlainPlant}
-use Rattle.lhg_plant.specs.Proper.{IsProper}
-use Rattle.lhg_read.specs.PlantText.{IsSomePlantText}
+use Rattle.lhg_read.specs.PlantText.{IsPlantText}
 use Rattle.lhg_row_text.specs.PrintedLine.{line}
 use Rattle.lhg_input.specs.Inputs.{IsControllerInput, IsLogInput, IsStateInput}
-use Rattle.lhg_cli.specs.Answer.{IsAnswer, IsAnswerTo, IsInputAnswer, IsPlantInput, IsSynthAnswer}
-use Rattle.lhg_cli.specs.PlantAnswer.{IsOutcome, IsPlantAnswer, IsStopText}
-use Rattle.lhg_cli.specs.Refusal.{IsRefusal}
+use Rattle.lhg_cli.specs.Answer.{IsAnswer, IsAnswerTo}
+use Rattle.lhg_cli.specs.PlantAnswer.{IsOutcome, IsStopText, IsSynthesis}
 use Rattle.lhg_cli.specs.InputAnswer.{IsBytesAnswer}
 use Rattle.lhg_cli.specs.Migration.{IsMigrated}
 use Rattle.lhg_cli.specs.RunAnswer.{IsRan}
@@ -40,48 +38,10 @@ stop_text tells a n status.Read text h = h
 stop_text tells a n status.Write text h = h
 stop_text tells a n status.Memory text h = h
 
--- the answer to a plant is one to the input that is its text
-pub answers : (n : ℕ) (bytes : List ℕ) → (input : IsPlantInput bytes) → IsProper input.plant → (s : Status) (text : List ℕ) → IsPlantAnswer input.plant n s text → IsSynthAnswer n (Some bytes) s text
-answers n bytes input proper status.Done text h = record { input = input; proper = proper; answer = h }
-answers n bytes input proper status.No text h = h
-answers n bytes input proper status.Words text h = h
-answers n bytes input proper status.Text text h = absurd h
-answers n bytes input proper status.Wide text h = record { input = input; proper = proper; answer = h }
-answers n bytes input proper status.Lists text h = record { input = input; proper = proper; answer = h }
-answers n bytes input proper status.Spent text h = record { input = input; proper = proper; answer = h }
-answers n bytes input proper status.Read text h = h
-answers n bytes input proper status.Write text h = h
-answers n bytes input proper status.Memory text h = h
-
--- an answer is a refusal or one to a plant
-pub answer_is : (n : ℕ) (bytes : List ℕ) (s : Status) (text : List ℕ) → IsSynthAnswer n (Some bytes) s text → ((s ≡ status.Text) × IsRefusal IsSomePlantText bytes text) ⊎ IsInputAnswer n bytes s text
-answer_is n bytes status.Done text h = inr h
-answer_is n bytes status.No text h = absurd h
-answer_is n bytes status.Words text h = absurd h
-answer_is n bytes status.Text text h = inl (refl, h)
-answer_is n bytes status.Wide text h = inr h
-answer_is n bytes status.Lists text h = inr h
-answer_is n bytes status.Spent text h = inr h
-answer_is n bytes status.Read text h = absurd h
-answer_is n bytes status.Write text h = absurd h
-answer_is n bytes status.Memory text h = absurd h
-
--- the bytes that were read are those that the source tells, where it tells them
-told : (n : ℕ) (input : Option (List ℕ)) (bytes read : List ℕ) (s : Status) (text : List ℕ) → IfSome input (λ left. read ≡ left) → bytes ≡ read → IsSynthAnswer n (Some bytes) s text
-    → IsSynthAnswer n input s text
-told n (Some left) bytes read s text same e h = subst (λ bs. IsSynthAnswer n (Some bs) s text) (e ∙ same) h
-told n None bytes read status.Done text same e h = tt
-told n None bytes read status.No text same e h = h
-told n None bytes read status.Words text same e h = h
-told n None bytes read status.Text text same e h = tt
-told n None bytes read status.Wide text same e h = tt
-told n None bytes read status.Lists text same e h = tt
-told n None bytes read status.Spent text same e h = tt
-told n None bytes read status.Read text same e h = h
-told n None bytes read status.Write text same e h = h
-told n None bytes read status.Memory text same e h = h
-
 -- an answer to bytes
+abbrev SynthAnswered : ℕ → Status → List ℕ → List ℕ → Type 0
+SynthAnswered n s text bytes = IsBytesAnswer IsPlantText (IsSynthesis n) bytes s text
+
 abbrev CheckAnswered : Status → List ℕ → List ℕ → Type 0
 CheckAnswered s text bytes = IsBytesAnswer IsControllerInput IsChecked bytes s text
 
@@ -96,7 +56,7 @@ ExplainAnswered n s text bytes = IsBytesAnswer IsStateInput (IsStateAnswer n) by
 
 pub told_for : (r : Request) → NeedsInput r → (input : Option (List ℕ)) (bytes read : List ℕ) (s : Status) (text : List ℕ) → IfSome input (λ left. read ≡ left) → bytes ≡ read → IsAnswerTo r (Some bytes) s text
     → IsAnswerTo r input s text
-told_for (Synth n) needs input bytes read s text same e h = told n input bytes read s text same e h
+told_for (Synth n) needs input bytes read s text same e h = of_source (SynthAnswered n s text) input bytes read same e h
 told_for Check needs input bytes read s text same e h = of_source (CheckAnswered s text) input bytes read same e h
 told_for Run needs input bytes read s text same e h = of_source (RunAnswered s text) input bytes read same e h
 told_for (Explain n) needs input bytes read s text same e h = of_source (ExplainAnswered n s text) input bytes read same e h
@@ -104,12 +64,8 @@ told_for Migrate needs input bytes read s text same e h = of_source (MigrateAnsw
 told_for (Gen k) needs input bytes read s text same e h = absurd needs
 
 -- an input that is too long is refused
-synth_too_long : (n : ℕ) (input : Option (List ℕ)) (text : List ℕ) → text ≡ line (codes "text line 0 TooLong") → IfSome input (λ left. most_bytes < length left) → IsSynthAnswer n input status.Text text
-synth_too_long n None text e h = tt
-synth_too_long n (Some left) text e h = inl (record { long = h; printed = e })
-
 pub too_long_for : (r : Request) → NeedsInput r → (input : Option (List ℕ)) (text : List ℕ) → text ≡ line (codes "text line 0 TooLong") → IfSome input (λ left. most_bytes < length left) → IsAnswerTo r input status.Text text
-too_long_for (Synth n) needs input text e h = synth_too_long n input text e h
+too_long_for (Synth n) needs input text e h = too_long_answer (SynthAnswered n status.Text text) (λ bytes long. inl (refl, inl (record { long = long; printed = e }))) input h
 too_long_for Check needs input text e h = too_long_answer (CheckAnswered status.Text text) (λ bytes long. inl (refl, inl (record { long = long; printed = e }))) input h
 too_long_for Run needs input text e h = too_long_answer (RunAnswered status.Text text) (λ bytes long. inl (refl, inl (record { long = long; printed = e }))) input h
 too_long_for (Explain n) needs input text e h = too_long_answer (ExplainAnswered n status.Text text) (λ bytes long. inl (refl, inl (record { long = long; printed = e }))) input h

@@ -5,8 +5,8 @@ use Rattle.lhg_math.specs.Tests.{false_true}
 use Rattle.lhg_num.specs.Marked.{Marked}
 use Rattle.lhg_plant.specs.Plant.{PlainPlant}
 use Rattle.lhg_plant.specs.Proper.{IsProper}
-use Rattle.lhg_read.specs.PlantText.{IsSomePlantText}
-use Rattle.lhg_read.proofs.TextLawProofs.{text_laws}
+use Rattle.lhg_read.specs.PlantText.{IsPlantText}
+use Rattle.lhg_read.proofs.TextLawProofs.{plant_reading}
 use Rattle.lhg_loss.specs.Iterate.{work}
 use Rattle.lhg_loss.specs.LimitFacts.{IsComputed}
 use Rattle.lhg_loss.specs.StageFacts.{RemovesSome}
@@ -15,11 +15,10 @@ use Rattle.lhg_loss.proofs.Seeking.{outcome_laws}
 use Rattle.lhg_gen.specs.GeneratedPlant.{generated_plant}
 use Rattle.lhg_input.specs.Inputs.{IsControllerInput, IsLogInput, IsStateInput}
 use Rattle.lhg_input.proofs.Wholes.{controllers_one, logs_one}
-use Rattle.lhg_cli.specs.Answer.{IsAnswer, IsAnswerTo, IsInputAnswer, IsPlantInput, IsSynthAnswer, IsTextFor, IsSolvable, IsUsedUp}
+use Rattle.lhg_cli.specs.Answer.{IsAnswer, IsAnswerTo, IsTextFor, IsSolvable, IsUsedUp}
 use Rattle.lhg_cli.specs.InputAnswer.{IsInput}
 use Rattle.lhg_cli.specs.Migration.{IsMigrated}
-use Rattle.lhg_cli.specs.PlantAnswer.{IsOutcome, IsPlantAnswer, IsReport, IsStopped}
-use Rattle.lhg_cli.specs.Refusal.{IsRefusal}
+use Rattle.lhg_cli.specs.PlantAnswer.{IsOutcome, IsReport, IsStopped, IsSynthesis, IsSynthAnswer}
 use Rattle.lhg_cli.specs.RunAnswer.{IsRan, IsRunnable, IsUnrunnable, IsSureRun}
 use Rattle.lhg_cli.specs.StateAnswer.{IsStateAnswer, IsExplainable, IsSureStatus}
 use Rattle.lhg_cli.specs.Settling.{IsWithin, IsSettled, IsUnsettled}
@@ -30,9 +29,9 @@ use Rattle.lhg_cli.specs.declared.request.Request.{Request}
 use Rattle.lhg_cli.specs.declared.request.Request.TheVariants.{Synth, Check, Run, Explain, Migrate, Gen}
 use Rattle.lhg_cli.specs.declared.status.Status.{Status}
 use Rattle.lhg_cli.specs.declared.status.Status.TheVariants as status
-use Rattle.lhg_cli.proofs.AnswerSteps.{answer_is, its_answer}
+use Rattle.lhg_cli.proofs.AnswerSteps.{its_answer}
 use Rattle.lhg_cli.proofs.GeneratedGame.{settles}
-use Rattle.lhg_cli.proofs.InputSteps.{not_refused, of_value, no_value, its_bytes}
+use Rattle.lhg_cli.proofs.InputSteps.{of_value, no_value, its_bytes}
 use Rattle.lhg_cli.proofs.RunAnswers.{sure_ran, not_ran}
 use Rattle.lhg_cli.proofs.SeekComplete.{sure_of}
 use Rattle.lhg_cli.proofs.VerdictSteps.{valid_done, invalid_no}
@@ -95,35 +94,16 @@ no_report : (a : PlainPlant) (n : ℕ) → IsUnsettled a n → (text : List ℕ)
 no_report a n t text h = (outcome_laws a n).not_solved h.controller h.rounds h.losses h.solves t.removes
 
 -- ---- an input
--- a plant is not refused as a text
-plant_not_refused : (bytes text : List ℕ) → IsPlantInput bytes → ¬ IsRefusal IsSomePlantText bytes text
-plant_not_refused bytes text t = not_refused IsSomePlantText bytes text t.short (record { tokens = t.reads.tokens; are = t.reads.are; is = (t.plant, t.reads.is) })
-
--- an answer to an input is one to the plant that it is
-of_plant : (n : ℕ) (bytes : List ℕ) (t : IsPlantInput bytes) (s : Status) (text : List ℕ) → IsInputAnswer n bytes s text → IsProper t.plant × IsPlantAnswer t.plant n s text
-of_plant n bytes t s text a =
-    let plant = text_laws.plant _ a.input.plant t.plant a.input.reads t.reads in
-    (subst IsProper plant a.proper, subst (λ (p : PlainPlant). IsPlantAnswer p n s text) plant a.answer)
-
 module _ (n : ℕ) (bytes : List ℕ) (s : Status) (text : List ℕ) (h : IsSynthAnswer n (Some bytes) s text) where
+  -- an answer to an input is one to the plant that it is
+  of_plant : (t : IsInput IsPlantText bytes) → IsSynthesis n t.value s text
+  of_plant t = of_value IsPlantText (IsSynthesis n) bytes (plant_reading.one_value (lines_of bytes)) t s text (its_bytes IsPlantText (IsSynthesis n) bytes s text h)
+
   solvable_done : IsSolvable bytes n → (s ≡ status.Done) ⊎ (s ≡ status.Memory)
-  solvable_done t =
-      elim (answer_is n bytes s text h) [
-        | inl r ↦ absurd (plant_not_refused bytes text t.input r.1)
-        | inr a ↦ let p = of_plant n bytes t.input s text a in settled_done (IsReport t.input.plant n) t.input.plant n p.0 t.settled s text p.1
-      ]
+  solvable_done t = let p = of_plant t.input in settled_done (IsReport t.input.value n) t.input.value n p.0 t.settled s text p.1
 
   used_up_spent : IsUsedUp bytes n → (s ≡ status.Spent) ⊎ (s ≡ status.Memory)
-  used_up_spent t =
-      elim (answer_is n bytes s text h) [
-        | inl r ↦ absurd (plant_not_refused bytes text t.input r.1)
-        | inr a ↦
-            let p = of_plant n bytes t.input s text a in
-            unsettled_spent (IsReport t.input.plant n) t.input.plant n t.unsettled (no_report t.input.plant n t.unsettled) s text p.1
-      ]
-
-  other_refused : ¬ IsPlantInput bytes → (s ≡ status.Text) ⊎ (s ≡ status.Memory)
-  other_refused t = elim (answer_is n bytes s text h) [ inl r ↦ inl r.0 | inr a ↦ absurd (t a.input) ]
+  used_up_spent t = let p = of_plant t.input in unsettled_spent (IsReport t.input.value n) t.input.value n t.unsettled (no_report t.input.value n t.unsettled) s text p.1
 
 -- ---- words
 module _ (words : List (List ℕ)) (P Q : Type 0) (s : Status) (text : List ℕ) where
@@ -139,7 +119,7 @@ module _ (words : List (List ℕ)) (P Q : Type 0) (s : Status) (text : List ℕ)
 
   -- an input that is no text of what is asked for
   not_text : (bytes : List ℕ) (r : Request) → IsAnswerTo r (Some bytes) s text → ¬ IsTextFor r bytes → (s ≡ status.Text) ⊎ (s ≡ status.Memory)
-  not_text bytes (Synth n) h t = other_refused n bytes s text h t
+  not_text bytes (Synth n) h t = inl (no_value IsPlantText (IsSynthesis n) bytes s text t (its_bytes IsPlantText (IsSynthesis n) bytes s text h))
   not_text bytes Check h t = inl (no_value IsControllerInput IsChecked bytes s text t (its_bytes IsControllerInput IsChecked bytes s text h))
   not_text bytes Run h t = inl (no_value IsLogInput IsRan bytes s text t (its_bytes IsLogInput IsRan bytes s text h))
   not_text bytes (Explain n) h t = inl (no_value IsStateInput (IsStateAnswer n) bytes s text t (its_bytes IsStateInput (IsStateAnswer n) bytes s text h))

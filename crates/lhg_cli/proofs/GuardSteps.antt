@@ -1,7 +1,6 @@
 -- An uncontrollable switch has no guard in what the calculus gives as a solution.
-use Rattle.std.proofs.Common.{◌≡◌, ℕ, zero, suc, List, [], length, get_or, slice_get, Option, Some, None, refl, sym, ap, ◌∙◌, subst}
+use Rattle.std.proofs.Common.{◌≡◌, ℕ, List, [], length, get_or, slice_get, Option, Some, None, refl, ap, ◌∙◌, subst}
 use Rattle.std.specs.Prelude.{IsSomeAnd}
-use Rattle.lhg_math.specs.Tests.{by_bool}
 use Rattle.lhg_num.specs.FracArithmetic.{frac_arithmetic}
 use Rattle.lhg_row.specs.Lists.{meet_lists}
 use Rattle.lhg_plant.specs.BackCalculus.{kept_side, back_by, guard_by, guards}
@@ -13,9 +12,9 @@ use Rattle.lhg_plant.specs.Region.{PlainRegion, PlainGuards}
 use Rattle.lhg_plant.specs.declared.plants.Side.{Side}
 use Rattle.lhg_plant.specs.declared.plants.Side.TheVariants.{Env}
 use Rattle.lhg_plant.proofs.BackStates.{each-at}
-use Rattle.lhg_loss.specs.Iterate.{PlainStage, PlainSolution, solved, spent, stage, next_round, after_round, none_lost, solution_within, solution}
-use Rattle.lhg_loss.proofs.Works.{step_laws}
+use Rattle.lhg_loss.specs.Iterate.{PlainSolution, solved, solution}
 use Rattle.lhg_ctl.specs.Written.{AreOfController}
+use Rattle.lhg_check.proofs.CheckSolved.{HasGuards, solution_guards}
 
 module _ (a : PlainPlant) (region : PlainRegion) where
   -- of one switch
@@ -33,22 +32,8 @@ module _ (a : PlainPlant) (region : PlainRegion) where
       let outside = (away (length a.vars) invs region).value in
       each-at (guard_by (length a.vars) invs region outside) a.switches e w there ∙ no_guard_by invs outside w h
 
--- the guards are those of the region
-abbrev IsGuarded : PlainPlant → PlainSolution → Type 0
-IsGuarded a (solved rounds region kept losses) = kept ≡ (guards a region).value
-IsGuarded a (spent s) = Unit {0}
-
-guarded_within : (left : ℕ) (a : PlainPlant) (i : ℕ) (s : PlainStage) → IsGuarded a (solution_within left a i s)
-guarded_within zero a i s = tt
-guarded_within (suc left) a i s =
-    let r = (next_round a (suc i) s).value in
-    by_bool (none_lost r.losses)
-    (λ e. subst (λ (x : PlainSolution). IsGuarded a x) (sym ((step_laws a).settled left i s e)) refl)
-    (λ e. subst (λ (x : PlainSolution). IsGuarded a x) (sym ((step_laws a).go_on left i s e)) (guarded_within left a (suc i) (after_round s r)))
-
--- an uncontrollable switch has none of them
-pub solution_guards : (a : PlainPlant) (budget rounds : ℕ) (region : PlainRegion) (kept : PlainGuards) (losses : List PlainLoss) → solution a budget ≡ solved rounds region kept losses → AreOfController a kept
-solution_guards a budget rounds region kept losses is e side =
-    let within = guarded_within budget a 0 (stage a 0).value in
-    let guarded = subst (λ (x : PlainSolution). IsGuarded a x) (sym ((step_laws a).first budget) ∙ is) within in
+-- an uncontrollable switch has none of the guards of the solution
+pub env_unguarded : (a : PlainPlant) (budget rounds : ℕ) (region : PlainRegion) (kept : PlainGuards) (losses : List PlainLoss) → solution a budget ≡ solved rounds region kept losses → AreOfController a kept
+env_unguarded a budget rounds region kept losses is e side =
+    let guarded : kept ≡ (guards a region).value = subst (λ (x : PlainSolution). HasGuards a x) is (solution_guards a budget) in
     ap (λ (gs : PlainGuards). get_or gs e []) guarded ∙ no_guard_at a region e (slice_get a.switches e) refl side

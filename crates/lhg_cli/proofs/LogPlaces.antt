@@ -11,20 +11,19 @@ use Rattle.lhg_lex.specs.PlainToken.{PlainToken}
 use Rattle.lhg_lex.proofs.LineCounts.{lines_count}
 use Rattle.lhg_plant.specs.Plant.{PlainPlant}
 use Rattle.lhg_plant.specs.Run.{PlainEntry, flow_entry, env_entry, land_entry}
-use Rattle.lhg_plant.specs.State.{PlainState}
 use Rattle.lhg_read.specs.Options.{joined}
 use Rattle.lhg_read.specs.PlantText.{said_in}
 use Rattle.lhg_read.specs.PointText.{number_in, point_of}
 use Rattle.lhg_read.specs.Signs.{is_word, is_minus}
-use Rattle.lhg_read.specs.StateText.{state_of}
 use Rattle.lhg_read.specs.TokenText.{token_line, token_lines}
 use Rattle.lhg_read.proofs.Answered.{was_there}
 use Rattle.lhg_ctl.specs.ControllerLine.{alone, is_uncontrollable, switch_in}
 use Rattle.lhg_ctl.specs.Draft.{PlainDraft}
-use Rattle.lhg_ctl.specs.LogText.{PlainLog, LogLine, entry, end, signed_by, timed, flow_of, env_of, log_line, start_line, said_entries}
+use Rattle.lhg_ctl.specs.LogText.{PlainLog, LogLine, entry, end, signed_by, timed, flow_of, env_of, log_line, said_entries}
 use Rattle.lhg_run.specs.Views.{IsOver}
+use Rattle.lhg_text.specs.TraceText.{IsPlacedState}
 use Rattle.lhg_input.specs.Inputs.{IsLogInput}
-use Rattle.lhg_cli.proofs.StatePlaces.{IsPlaced, point_fits, of_state}
+use Rattle.lhg_cli.proofs.StatePlaces.{point_fits, of_line}
 
 -- ---- entries
 -- one of two values
@@ -87,10 +86,6 @@ module _ (a : PlainPlant) where
       let more : map (λ line. log_line a (said_in line)) rest ≡ map (λ line. Some line) (said_entries entries) = cc in
       (line_over (said_in line) (entry x) here, entries_over rest entries more)
 
-  start_over : (tokens : List PlainToken) (z : PlainState) → start_line a tokens ≡ Some z → IsPlaced a z
-  start_over [] z e = absurd cc
-  start_over (first ∷ tokens) z e = either (IsPlaced a) (is_word (codes "start") first) (state_of a tokens) None z (of_state a tokens z) (λ f. absurd cc) e
-
 -- ---- their number
 -- there are no more lines with tokens than lines
 few_in : (r : Result (List Spot) Fault) (o : Option (List (List Spot))) (n : ℕ) (tokens : List (List Spot)) → ((more : List (List Spot)) → o ≡ Some more → length more ≤ n) → joined (token_line r) o ≡ Some tokens → length tokens ≤ suc n
@@ -115,8 +110,8 @@ entries_count a rest entries e =
 
 -- ---- a log that is read
 module _ (bytes : List ℕ) (a : PlainPlant) (d : PlainDraft) (log : PlainLog) (h : IsLogInput (lines_of bytes) ((a, d), log)) where
-  pub log_start : IsPlaced a log.start
-  log_start = start_over a (said_in h.second.is.first) log.start h.second.is.start_is
+  pub log_start : IsPlacedState a log.start
+  log_start = of_line (codes "start") a (said_in h.second.is.first) log.start h.second.is.start_is
 
   pub log_over : AllOf (IsOver (length a.vars)) log.entries
   log_over = entries_over a h.second.is.rest log.entries h.second.is.rest_are

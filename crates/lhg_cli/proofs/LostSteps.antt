@@ -1,7 +1,6 @@
 -- The first record that holds a lost state, the round in which it was removed, and the places of its escape.
 use Rattle.std.proofs.Common.{◌≡◌, ◌<◌, ◌≤◌, ◌-◌, ℕ, zero, suc, List, [], ◌∷◌, length, get_or, slice_get, Option, Some, None, inl, inr, refl, sym, ap, ◌∙◌, subst, arith}
 use Rattle.std.specs.Prelude.{IsSomeAnd}
-use Rattle.std.proofs.lemmas.Option.{slice_get_within}
 use Rattle.lhg_math.specs.Tests.{AllOf}
 use Rattle.lhg_row.specs.Row.{PlainPoint}
 use Rattle.lhg_row.specs.Piece.{PlainPiece}
@@ -9,7 +8,7 @@ use Rattle.lhg_motion.specs.Play.{PlainMove, IsPlay}
 use Rattle.lhg_plant.specs.Loss.{PlainLoss, InLoss}
 use Rattle.lhg_plant.specs.Plant.{PlainPlant, PlainLocation}
 use Rattle.lhg_plant.specs.Round.{InRound, IsRemovedIn}
-use Rattle.lhg_plant.specs.State.{PlainState, States, IsState}
+use Rattle.lhg_plant.specs.State.{PlainState, States}
 use Rattle.lhg_plant.specs.declared.states.State.{State}
 use Rattle.lhg_loss.specs.Holding.{HoldsState, IsFirstHolding}
 use Rattle.lhg_loss.specs.Views.{plain_loss, plain_losses}
@@ -20,16 +19,7 @@ use Rattle.lhg_explain.specs.Explained.{IsHeldBy, IsLeft, IsExplained}
 use Rattle.lhg_explain.specs.Views.{plain_last}
 use Rattle.lhg_explain.proofs.HeldRecords.{there_listed}
 use Rattle.lhg_text.specs.EscapeText.{plain_exit, IsFittingMove, IsPlacedExit}
-
--- what is there has a place in the list
-there : {A : Type 0} (P : A → Type 0) (xs : List A) (k : ℕ) (x : Option A) → slice_get xs k ≡ x → IsSomeAnd x P → k < length xs
-there P xs k None e h = absurd h
-there P xs k (Some x) e h = slice_get_within xs k x e
-
--- a state of a round is one of the plant
-round_state : (a : PlainPlant) (i : ℕ) (s : PlainState) → InRound a i s → IsState a s
-round_state a zero s h = h.state
-round_state a (suc i) s h = round_state a i s h.0
+use Rattle.lhg_cli.proofs.Placed.{there, round_state, placed_state}
 
 -- ---- the record
 -- a record of the list with this number holds the state
@@ -119,9 +109,7 @@ escape_moves a z e h = fitting_at a (slice_get a.locs z.loc) z.at e.way.moves h.
 
 placed_exit : (a : PlainPlant) (S : States) (s : PlainState) (last : Option (ℕ × PlainState)) → IsLeft a S s last → IsPlacedExit a last
 placed_exit a S s None h = tt
-placed_exit a S s (Some last) h =
-    let result = h.1.result in
-    (there _ a.switches last.0 (slice_get a.switches last.0) refl h.0, there _ a.locs last.1.loc (slice_get a.locs last.1.loc) refl result.inside, result.fits)
+placed_exit a S s (Some last) h = (there _ a.switches last.0 (slice_get a.switches last.0) refl h.0, placed_state a last.1 h.1.result)
 
 -- the last switch is seen alike by those who explain and by those who print
 pub exit_is : (last : Option (ℕ × State)) → plain_last last ≡ plain_exit last

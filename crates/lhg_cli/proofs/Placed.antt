@@ -1,4 +1,4 @@
--- The places of a spent state, and of sound records, are those of the plant.
+-- The places of states, and of sound records, are those of the plant.
 use Rattle.std.proofs.Common.{◌≡◌, ◌<◌, ℕ, zero, suc, List, [], ◌∷◌, length, slice_get, Option, Some, None, refl, subst, arith}
 use Rattle.std.specs.Prelude.{IsSomeAnd, Contains}
 use Rattle.std.proofs.lemmas.Option.{slice_get_within}
@@ -14,6 +14,7 @@ use Rattle.lhg_loss.specs.StageFacts.{IsSpent}
 use Rattle.lhg_loss.specs.Views.{plain_loss, plain_losses, AreOver, AllHaveVars}
 use Rattle.lhg_loss.specs.declared.losses.Loss.{Loss}
 use Rattle.lhg_text.specs.ReportConditions.{IsPlacedCause, IsPlacedLoss}
+use Rattle.lhg_text.specs.TraceText.{IsPlacedState}
 
 -- what is there has a place in the list
 pub there : {A : Type 0} (P : A → Type 0) (xs : List A) (k : ℕ) (x : Option A) → slice_get xs k ≡ x → IsSomeAnd x P → k < length xs
@@ -21,7 +22,7 @@ there P xs k None e h = absurd h
 there P xs k (Some x) e h = slice_get_within xs k x e
 
 -- a state of a round is one of the plant
-round_state : (a : PlainPlant) (i : ℕ) (s : PlainState) → InRound a i s → IsState a s
+pub round_state : (a : PlainPlant) (i : ℕ) (s : PlainState) → InRound a i s → IsState a s
 round_state a zero s h = h.state
 round_state a (suc i) s h = round_state a i s h.0
 
@@ -30,6 +31,10 @@ spent_place a budget s h = there _ a.locs s.loc (slice_get a.locs s.loc) refl (r
 
 pub spent_length : (a : PlainPlant) (budget : ℕ) (s : PlainState) → IsSpent a budget s → length s.at ≡ length a.vars
 spent_length a budget s h = (round_state a h.removed.round s h.removed.kept).fits
+
+-- a state of the plant has its place
+pub placed_state : (a : PlainPlant) (s : PlainState) → IsState a s → IsPlacedState a s
+placed_state a s h = record { loc = there _ a.locs s.loc (slice_get a.locs s.loc) refl h.inside; fits = h.fits }
 
 -- the switch of a cause that is shown is there
 cause_there : (a : PlainPlant) (S : States) (losses : List PlainLoss) (loss : PlainLoss) (cause : PlainCause) → Shows a S losses loss cause → IsPlacedCause a cause

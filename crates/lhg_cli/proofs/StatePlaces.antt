@@ -17,8 +17,9 @@ use Rattle.lhg_read.specs.PlantSteps.{loc_names}
 use Rattle.lhg_read.specs.PlantText.{said_in}
 use Rattle.lhg_read.specs.PointText.{coordinate_of, coordinates_of, point_of}
 use Rattle.lhg_read.specs.Signs.{is_word, is_comma}
-use Rattle.lhg_read.specs.StateText.{location_in, state_of, state_line}
+use Rattle.lhg_read.specs.StateText.{location_in, state_of, state_by}
 use Rattle.lhg_read.proofs.Answered.{was_there}
+use Rattle.lhg_text.specs.TraceText.{IsPlacedState}
 use Rattle.lhg_input.specs.Inputs.{IsStateInput}
 
 -- a point has one value for each name
@@ -46,29 +47,26 @@ location_there a token loc e =
     let size = length-map a.locs (λ (l : PlainLocation). l.name) in
     omega (arith, low, size))
 
--- a state is placed
-abbrev pub IsPlaced : PlainPlant → PlainState → Type 0
-IsPlaced a z = (z.loc < length a.locs) × (length z.at ≡ length a.vars)
-
-pub of_state : (a : PlainPlant) (tokens : List PlainToken) (z : PlainState) → state_of a tokens ≡ Some z → IsPlaced a z
+-- a state that is read is placed
+of_state : (a : PlainPlant) (tokens : List PlainToken) (z : PlainState) → state_of a tokens ≡ Some z → IsPlacedState a z
 of_state a [] z e = absurd cc
 of_state a (name ∷ point) z e =
     option_and_then_some _ (location_in a name) z e
     (λ loc is f.
     let at = was_there (λ x. let s : PlainState = record { loc = loc; at = x } in s) (point_of a.vars point) z f in
-    subst (IsPlaced a) at.2 (location_there a name loc is, point_fits a.vars point at.0 at.1))
+    subst (IsPlacedState a) at.2 (record { loc = location_there a name loc is; fits = point_fits a.vars point at.0 at.1 }))
 
-by_word : (a : PlainPlant) (tokens : List PlainToken) (z : PlainState) (b : Bool) → (if b then state_of a tokens else None) ≡ Some z → IsPlaced a z
+by_word : (a : PlainPlant) (tokens : List PlainToken) (z : PlainState) (b : Bool) → (if b then state_of a tokens else None) ≡ Some z → IsPlacedState a z
 by_word a tokens z true e = of_state a tokens z e
 by_word a tokens z false e = absurd cc
 
-of_line : (a : PlainPlant) (tokens : List PlainToken) (z : PlainState) → state_line a tokens ≡ Some z → IsPlaced a z
-unfolding state_line
-of_line a [] z e = absurd cc
-of_line a (first ∷ tokens) z e = by_word a tokens z (is_word (codes "state") first) e
+pub of_line : (w : List ℕ) (a : PlainPlant) (tokens : List PlainToken) (z : PlainState) → state_by w a tokens ≡ Some z → IsPlacedState a z
+unfolding state_by
+of_line w a [] z e = absurd cc
+of_line w a (first ∷ tokens) z e = by_word a tokens z (is_word w first) e
 
 pub state_place : (lines : List (List ℕ)) (a : PlainPlant) (z : PlainState) → IsStateInput lines (a, z) → z.loc < length a.locs
-state_place lines a z h = (of_line a (said_in h.second.is.line) z h.second.is.says).0
+state_place lines a z h = (of_line (codes "state") a (said_in h.second.is.line) z h.second.is.says).loc
 
 pub state_fits : (lines : List (List ℕ)) (a : PlainPlant) (z : PlainState) → IsStateInput lines (a, z) → length z.at ≡ length a.vars
-state_fits lines a z h = (of_line a (said_in h.second.is.line) z h.second.is.says).1
+state_fits lines a z h = (of_line (codes "state") a (said_in h.second.is.line) z h.second.is.says).fits

@@ -1,6 +1,5 @@
 -- The places of the steps of a run are those of the plant, and their points have a value for each variable.
-use Rattle.std.proofs.Common.{◌≡◌, ◌<◌, ℕ, zero, suc, Bool, true, false, cond, List, [], ◌∷◌, length, take, slice_get, Option, Some, None, IsSomeAnd, inl, inr, refl, sym, ◌∙◌, subst}
-use Rattle.std.proofs.lemmas.Option.{slice_get_within}
+use Rattle.std.proofs.Common.{◌≡◌, ℕ, zero, suc, Bool, true, false, cond, List, [], ◌∷◌, length, take, slice_get, Some, inl, inr, refl, sym, ◌∙◌, subst}
 use Rattle.lhg_math.specs.Number.{Number, lt, nought, mul}
 use Rattle.lhg_math.specs.Tests.{AllOf}
 use Rattle.lhg_row.specs.Members.{all-append}
@@ -17,15 +16,8 @@ use Rattle.lhg_plant.specs.State.{PlainState, IsState}
 use Rattle.lhg_plant.proofs.Picks.{picked_right}
 use Rattle.lhg_plant.proofs.RunInside.{flow_length, along_state}
 use Rattle.lhg_run.specs.Answers.{IsTraceBefore}
-use Rattle.lhg_text.specs.TraceText.{IsPlacedState, IsPlacedStep}
-
--- what is there has a place in the list
-there : {A : Type 0} (P : A → Type 0) (xs : List A) (k : ℕ) (x : Option A) → slice_get xs k ≡ x → IsSomeAnd x P → k < length xs
-there P xs k None e h = absurd h
-there P xs k (Some x) e h = slice_get_within xs k x e
-
-placed_state : (a : PlainPlant) (s : PlainState) → IsState a s → IsPlacedState a s
-placed_state a s h = record { loc = there _ a.locs s.loc (slice_get a.locs s.loc) refl h.inside; fits = h.fits }
+use Rattle.lhg_text.specs.TraceText.{IsPlacedStep}
+use Rattle.lhg_cli.proofs.Placed.{there, placed_state}
 
 module _ (a : PlainPlant) (proper : IsProper a) (c : PlainController) (inside : IsRegionInside a c.region) where
   -- a flow as far as a place

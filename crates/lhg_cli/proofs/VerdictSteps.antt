@@ -7,27 +7,23 @@ use Rattle.lhg_num.specs.declared.refusals.Halt.{Halt}
 use Rattle.lhg_num.specs.declared.refusals.Halt.TheVariants.{Wide, Rows, Pieces, Memory}
 use Rattle.lhg_plant.specs.Controller.{PlainController, IsValid}
 use Rattle.lhg_plant.specs.Plant.{PlainPlant}
-use Rattle.lhg_plant.specs.State.{PlainState, IsState}
 use Rattle.lhg_row_text.specs.PrintedLine.{line}
 use Rattle.lhg_ctl.specs.Draft.{PlainDraft}
 use Rattle.lhg_check.specs.Check.{PlainVerdict, valid, unsafe, bad_guard, escapes}
 use Rattle.lhg_check.specs.CheckFacts.{IsVerdict}
 use Rattle.lhg_check.specs.CheckLaws.{IsExactVerdict}
-use Rattle.lhg_cli.specs.Verdict.{controller_in, check_of, KeepsWritten, verdict_text, status_of, IsPlacedState, IsPlacedVerdict, IsVerdictLine, IsCheckStop, IsChecked, IsWithinCheck, TellsHalt}
+use Rattle.lhg_cli.specs.Verdict.{controller_in, check_of, KeepsWritten, verdict_text, status_of, IsPlacedVerdict, IsVerdictLine, IsCheckStop, IsChecked, IsWithinCheck, TellsHalt}
 use Rattle.lhg_cli.specs.declared.solving.Answer.{Answer}
 use Rattle.lhg_cli.specs.declared.status.Status.{Status}
 use Rattle.lhg_cli.specs.declared.status.Status.TheVariants as status
 use Rattle.lhg_cli.proofs.InputSteps.{ok_with}
-use Rattle.lhg_cli.proofs.Placed.{there}
+use Rattle.lhg_cli.proofs.Placed.{there, placed_state}
 
 -- words and a text, put together in order
 pub put_together : (head name text : List ℕ) → line (((head ++ name) ++ 32 ∷ []) ++ text) ≡ line (head ++ (name ++ 32 ∷ text))
 put_together head name text = ap line (append_assoc (head ++ name) (32 ∷ []) text ∙ append_assoc head name (32 ∷ text))
 
 -- ---- the state that it shows
-placed_state : (a : PlainPlant) (s : PlainState) → IsState a s → IsPlacedState a s
-placed_state a s h = record { place = there _ a.locs s.loc (slice_get a.locs s.loc) refl h.inside; fits = h.fits }
-
 pub placed_verdict : (a : PlainPlant) (c : PlainController) (v : PlainVerdict) → IsVerdict a c v → IsPlacedVerdict a v
 placed_verdict a c valid h = tt
 placed_verdict a c (unsafe s) h = placed_state a s h.0.state

@@ -1,16 +1,13 @@
 -- Which text stands for which status, by the words and the bytes of the input?
-use Rattle.std.specs.Prelude.{◌≡◌, ◌<◌, ◌≤◌, ℕ, List, length, codes, Option, IfSome, ◌⊎◌}
+use Rattle.std.specs.Prelude.{◌≡◌, ◌<◌, ℕ, List, length, codes, Option, IfSome, ◌⊎◌}
 use Rattle.std.specs.Io.KnownBytes.{IsAtEnd}
-use Rattle.lhg_lex.specs.Lines.{lines_of, most_bytes}
-use Rattle.lhg_plant.specs.Plant.{PlainPlant}
-use Rattle.lhg_plant.specs.Proper.{IsProper}
-use Rattle.lhg_read.specs.PlantText.{IsPlantText, IsSomePlantText}
+use Rattle.lhg_lex.specs.Lines.{most_bytes}
+use Rattle.lhg_read.specs.PlantText.{IsPlantText}
 use Rattle.lhg_row_text.specs.PrintedLine.{line}
 use Rattle.lhg_input.specs.Inputs.{IsControllerInput, IsLogInput, IsStateInput}
 use Rattle.lhg_cli.specs.InputAnswer.{IsInput}
 use Rattle.lhg_cli.specs.Migration.{IsMigrateAnswer}
-use Rattle.lhg_cli.specs.PlantAnswer.{IsPlantAnswer}
-use Rattle.lhg_cli.specs.Refusal.{IsRefusal}
+use Rattle.lhg_cli.specs.PlantAnswer.{IsSynthAnswer}
 use Rattle.lhg_cli.specs.RunAnswer.{IsRunAnswer}
 use Rattle.lhg_cli.specs.Settling.{IsSettled, IsUnsettled}
 use Rattle.lhg_cli.specs.StateAnswer.{IsExplainAnswer}
@@ -24,31 +21,6 @@ use Rattle.lhg_cli.specs.declared.status.Status.TheVariants as status
 
 abbrev pub usage_text : List ℕ
 usage_text = line (codes "usage: lhg synth [N] | check | run | explain [N] | gen K | migrate")
-
--- the input is the text of a plant
-pub record IsPlantInput (bytes : List ℕ) : Type 0 where
-  pub short : length bytes ≤ most_bytes
-  pub plant : PlainPlant
-  pub reads : IsPlantText (lines_of bytes) plant
-
--- the input is the text of a plant, whose names, places and sizes are as they should be, with this answer within the budget
-pub record IsInputAnswer (budget : ℕ) (bytes : List ℕ) (s : Status) (text : List ℕ) : Type 0 where
-  pub input : IsPlantInput bytes
-  pub proper : IsProper input.plant
-  pub answer : IsPlantAnswer input.plant budget s text
-
--- the text that stands for the status where a controller is asked for; where the source does not tell its bytes, nothing is said of them
-abbrev pub IsSynthAnswer : ℕ → Option (List ℕ) → Status → List ℕ → Type 0
-IsSynthAnswer n input status.Done text = IfSome input (λ bytes. IsInputAnswer n bytes status.Done text)
-IsSynthAnswer n input status.No text = ⊥
-IsSynthAnswer n input status.Words text = ⊥
-IsSynthAnswer n input status.Text text = IfSome input (λ bytes. IsRefusal IsSomePlantText bytes text)
-IsSynthAnswer n input status.Wide text = IfSome input (λ bytes. IsInputAnswer n bytes status.Wide text)
-IsSynthAnswer n input status.Lists text = IfSome input (λ bytes. IsInputAnswer n bytes status.Lists text)
-IsSynthAnswer n input status.Spent text = IfSome input (λ bytes. IsInputAnswer n bytes status.Spent text)
-IsSynthAnswer n input status.Read text = ⊥
-IsSynthAnswer n input status.Write text = ⊥
-IsSynthAnswer n input status.Memory text = ⊥
 
 -- the text that stands for the status of what is asked for
 abbrev pub IsAnswerTo : Request → Option (List ℕ) → Status → List ℕ → Type 0
@@ -84,7 +56,7 @@ IsAnswered status.Memory = ⊥
 
 -- the input is a text of what is asked for
 abbrev pub IsTextFor : Request → List ℕ → Type 0
-IsTextFor (Synth n) bytes = IsPlantInput bytes
+IsTextFor (Synth n) bytes = IsInput IsPlantText bytes
 IsTextFor Check bytes = IsInput IsControllerInput bytes
 IsTextFor Run bytes = IsInput IsLogInput bytes
 IsTextFor (Explain n) bytes = IsInput IsStateInput bytes
@@ -93,13 +65,13 @@ IsTextFor (Gen k) bytes = Unit {0}
 
 -- the input is the text of a plant that is settled within the budget
 pub record IsSolvable (bytes : List ℕ) (budget : ℕ) : Type 0 where
-  pub input : IsPlantInput bytes
-  pub settled : IsSettled input.plant budget
+  pub input : IsInput IsPlantText bytes
+  pub settled : IsSettled input.value budget
 
 -- the input is the text of a plant that is not
 pub record IsUsedUp (bytes : List ℕ) (budget : ℕ) : Type 0 where
-  pub input : IsPlantInput bytes
-  pub unsettled : IsUnsettled input.plant budget
+  pub input : IsInput IsPlantText bytes
+  pub unsettled : IsUnsettled input.value budget
 
 -- the input is read to its end, unless it is too long
 abbrev pub IsReadToEnd : Option (List ℕ) → Option (List ℕ) → Status → Type 0

@@ -14,6 +14,7 @@ use Rattle.lhg_ctl.specs.DraftStates.{InDraft, InDraftGuard}
 use Rattle.lhg_ctl.specs.Making.{controller_of}
 use Rattle.lhg_check.specs.Check.{PlainVerdict, valid, unsafe, bad_guard, escapes, check}
 use Rattle.lhg_check.specs.CheckLaws.{IsExactVerdict}
+use Rattle.lhg_text.specs.TraceText.{IsPlacedState}
 use Rattle.lhg_input.specs.Inputs.{IsControllerInput}
 use Rattle.lhg_cli.specs.InputAnswer.{IsInput, IsBytesAnswer, HasAnswer}
 use Rattle.lhg_cli.specs.declared.status.Status.{Status}
@@ -47,11 +48,6 @@ status_of valid = status.Done
 status_of (unsafe s) = status.No
 status_of (bad_guard e s) = status.No
 status_of (escapes s) = status.No
-
--- the location of the state is there, and it has a value for each variable
-pub record IsPlacedState (a : PlainPlant) (s : PlainState) : Type 0 where
-  pub place : s.loc < length a.locs
-  pub fits : length s.at ≡ length a.vars
 
 -- the state of the verdict is such a state, and its switch is there
 abbrev pub IsPlacedVerdict : PlainPlant → PlainVerdict → Type 0

@@ -10,7 +10,8 @@ ghost use Rattle.lhg_ctl.specs.Views.{plain_controller, plain_draft};
 ghost use Rattle.lhg_check.specs.Check.{bad_guard};
 ghost use Rattle.lhg_check.specs.CheckLaws.{IsExactVerdict};
 ghost use Rattle.lhg_check.specs.Views.{plain_verdict};
-ghost use Rattle.lhg_cli.specs.Verdict.{controller_in, check_of, KeepsWritten, verdict_text, status_of, IsPlacedState, IsPlacedVerdict, TellsHalt};
+ghost use Rattle.lhg_text.specs.TraceText.{IsPlacedState};
+ghost use Rattle.lhg_cli.specs.Verdict.{controller_in, check_of, KeepsWritten, verdict_text, status_of, IsPlacedVerdict, TellsHalt};
 
 use crate::Status;
 use crate::solving::Answer;

@@ -1,6 +1,8 @@
 // What answers an input from which a controller is asked for?
-ghost use Rattle.std.specs.Prelude.{◌≤◌, Some, length, IfOk};
-ghost use Rattle.lhg_cli.specs.Answer.{IsSynthAnswer};
+ghost use Rattle.std.specs.Prelude.{◌≤◌, length, IfOk};
+ghost use Rattle.lhg_read.specs.PlantText.{IsPlantText};
+ghost use Rattle.lhg_cli.specs.InputAnswer.{IsBytesAnswer};
+ghost use Rattle.lhg_cli.specs.PlantAnswer.{IsSynthesis};
 ghost use Rattle.lhg_cli.specs.Words.{most_rounds};
 
 use crate::refusing::refused;
@@ -14,7 +16,7 @@ pub fn synth_of(alloc: Global, rounds: u32, bytes: &[u8]) -> Result<Answer, Allo
     requires bytes { length bytes.now ≤ INPUT_LIMIT }
     requires low { 1 ≤ rounds }
     requires high { rounds ≤ most_rounds }
-    ensures { IfOk result (λ a. IsSynthAnswer rounds (Some bytes.now) a.status a.text.items) }
+    ensures { IfOk result (λ a. IsBytesAnswer IsPlantText (IsSynthesis rounds) bytes.now a.status a.text.items) }
 {
     match read_plant_input(alloc, bytes) {
         Ok(plant) => solved(alloc, &plant, rounds),

@@ -10,6 +10,7 @@ use Rattle.lhg_row.specs.Piece.{PlainPiece}
 use Rattle.lhg_lex.specs.LineTokens.{Spot}
 use Rattle.lhg_plant.specs.Differ.{is_among, differ_from}
 use Rattle.lhg_plant.specs.Plant.{PlainPlant}
+use Rattle.lhg_read.specs.Machine.{all_taken}
 use Rattle.lhg_read.specs.PlantSteps.{is_nil}
 use Rattle.lhg_read.specs.PlantText.{said_in}
 use Rattle.lhg_read.proofs.Collecting.{same_eq}
@@ -21,11 +22,14 @@ use Rattle.lhg_ctl.specs.Draft.{PlainDraft, guard_name, guard_names}
 use Rattle.lhg_ctl.specs.Numbered.{sizes_in}
 use Rattle.lhg_ctl.specs.declared.versions.Version.{Version}
 use Rattle.lhg_ctl.specs.declared.versions.Version.TheVariants.{First, Second}
-use Rattle.lhg_ctl.proofs.Machine.{all_taken}
 
 -- whether a controller has ended
 abbrev pub is_ended : PlainOpen → Bool
 is_ended o = o.ended
+
+-- what a line changes
+abbrev pub taken_at : PlainPlant → PlainOpen → List Spot → Option PlainOpen
+taken_at p o line = taken p o (said_in line) (sizes_in line)
 
 -- what lines change, one after the other
 abbrev pub steps : PlainOpen → List ControllerLine → Option PlainOpen
@@ -78,7 +82,7 @@ same_version o new end h = let x : PlainOpen = record o { ended = true } in vers
 
 module _ (p : PlainPlant) where
   -- lines with these values are taken as the values are
-  pub taken_as : (v : Version) (o : PlainOpen) (lines : List (List Spot)) (values : List ControllerLine) → o.version ≡ v → map (line_in v p) lines ≡ map (λ x. Some x) values → all_taken (taken p) is_ended o lines ≡ steps o values
+  pub taken_as : (v : Version) (o : PlainOpen) (lines : List (List Spot)) (values : List ControllerLine) → o.version ≡ v → map (line_in v p) lines ≡ map (λ x. Some x) values → all_taken (taken_at p) is_ended o lines ≡ steps o values
   taken_as v o [] [] e h = refl
   taken_as v o [] (x ∷ xs) e h = absurd cc
   taken_as v o (l ∷ ls) [] e h = absurd cc
@@ -86,10 +90,10 @@ module _ (p : PlainPlant) where
       let here : line_in v p l ≡ Some x = cc in
       let later : map (line_in v p) ls ≡ map (λ w. Some w) xs = cc in
       let same : line_in o.version p l ≡ Some x = ap (λ w. line_in w p l) e ∙ here in
-      ap (λ y. cond o.ended None (option_and_then (λ z. all_taken (taken p) is_ended z ls) (option_and_then (step o) y))) same
+      ap (λ y. cond o.ended None (option_and_then (λ z. all_taken (taken_at p) is_ended z ls) (option_and_then (step o) y))) same
       ∙ ap (λ y. cond o.ended None y) (each (step o x) (λ z k. taken_as v z ls xs (same_version o z x k ∙ e) later) refl)
     where
-      each : (y : Option PlainOpen) → ((z : PlainOpen) → step o x ≡ Some z → all_taken (taken p) is_ended z ls ≡ steps z xs) → step o x ≡ y → option_and_then (λ z. all_taken (taken p) is_ended z ls) y ≡ option_and_then (λ z. steps z xs) y
+      each : (y : Option PlainOpen) → ((z : PlainOpen) → step o x ≡ Some z → all_taken (taken_at p) is_ended z ls ≡ steps z xs) → step o x ≡ y → option_and_then (λ z. all_taken (taken_at p) is_ended z ls) y ≡ option_and_then (λ z. steps z xs) y
       each None f k = refl
       each (Some z) f k = f z k
 
@@ -99,8 +103,8 @@ module _ (p : PlainPlant) where
     pub said : map (line_in v p) lines ≡ map (λ x. Some x) values
     pub stepped : steps o values ≡ Some new
 
-  say_more : (v : Version) (o new : PlainOpen) (l : List Spot) (ls : List (List Spot)) → ((z : PlainOpen) → z.version ≡ v → all_taken (taken p) is_ended z ls ≡ Some new → Say v z new ls) → o.version ≡ v → (x : ControllerLine) (y : Option PlainOpen) → o.ended ≡ false → line_in v p l ≡ Some x → step o x ≡ y
-      → option_and_then (λ z. all_taken (taken p) is_ended z ls) y ≡ Some new → Say v o new (l ∷ ls)
+  say_more : (v : Version) (o new : PlainOpen) (l : List Spot) (ls : List (List Spot)) → ((z : PlainOpen) → z.version ≡ v → all_taken (taken_at p) is_ended z ls ≡ Some new → Say v z new ls) → o.version ≡ v → (x : ControllerLine) (y : Option PlainOpen) → o.ended ≡ false → line_in v p l ≡ Some x → step o x ≡ y
+      → option_and_then (λ z. all_taken (taken_at p) is_ended z ls) y ≡ Some new → Say v o new (l ∷ ls)
   say_more v o new l ls rest e x None t f s k = absurd (none-some new k)
   say_more v o new l ls rest e x (Some y) t f s k =
       let more = rest y (same_version o y x s ∙ e) k in
@@ -110,16 +114,16 @@ module _ (p : PlainPlant) where
         stepped = ap (λ b. cond b None (option_and_then (λ z. steps z more.values) (step o x))) t ∙ ap (option_and_then (λ z. steps z more.values)) s ∙ more.stepped;
       }
 
-  say_line : (v : Version) (o new : PlainOpen) (l : List Spot) (ls : List (List Spot)) → ((z : PlainOpen) → z.version ≡ v → all_taken (taken p) is_ended z ls ≡ Some new → Say v z new ls) → o.version ≡ v → (b : Bool) (x : Option ControllerLine) → o.ended ≡ b → line_in v p l ≡ x
-      → cond b None (option_and_then (λ z. all_taken (taken p) is_ended z ls) (option_and_then (step o) x)) ≡ Some new → Say v o new (l ∷ ls)
+  say_line : (v : Version) (o new : PlainOpen) (l : List Spot) (ls : List (List Spot)) → ((z : PlainOpen) → z.version ≡ v → all_taken (taken_at p) is_ended z ls ≡ Some new → Say v z new ls) → o.version ≡ v → (b : Bool) (x : Option ControllerLine) → o.ended ≡ b → line_in v p l ≡ x
+      → cond b None (option_and_then (λ z. all_taken (taken_at p) is_ended z ls) (option_and_then (step o) x)) ≡ Some new → Say v o new (l ∷ ls)
   say_line v o new l ls rest e true x t f k = absurd (none-some new k)
   say_line v o new l ls rest e false None t f k = absurd (none-some new k)
   say_line v o new l ls rest e false (Some x) t f k = say_more v o new l ls rest e x (step o x) t f refl k
 
   -- lines that are taken have said so
-  pub say_all : (v : Version) (o new : PlainOpen) (lines : List (List Spot)) → o.version ≡ v → all_taken (taken p) is_ended o lines ≡ Some new → Say v o new lines
+  pub say_all : (v : Version) (o new : PlainOpen) (lines : List (List Spot)) → o.version ≡ v → all_taken (taken_at p) is_ended o lines ≡ Some new → Say v o new lines
   say_all v o new [] e h = record { values = []; said = refl; stepped = h }
-  say_all v o new (l ∷ ls) e h = say_line v o new l ls (λ z f k. say_all v z new ls f k) e o.ended (line_in v p l) refl refl (ap (λ w. cond o.ended None (option_and_then (λ z. all_taken (taken p) is_ended z ls) (option_and_then (step o) (line_in w p l)))) (sym e) ∙ h)
+  say_all v o new (l ∷ ls) e h = say_line v o new l ls (λ z f k. say_all v z new ls f k) e o.ended (line_in v p l) refl refl (ap (λ w. cond o.ended None (option_and_then (λ z. all_taken (taken_at p) is_ended z ls) (option_and_then (step o) (line_in w p l)))) (sym e) ∙ h)
 
 -- ---- how many
 

@@ -14,7 +14,6 @@ pub mod LogLawProofs
 pub mod LogMachine
 pub mod LogStart
 pub mod LogSteps
-pub mod Machine
 pub mod MakingExact
 pub mod MakingInside
 pub mod MakingLawProofs
@@ -26,4 +25,3 @@ pub mod PrintedLines
 pub mod ReadingSteps
 pub mod SecondTexts
 pub mod SwitchPlaces
-pub mod TextEnds

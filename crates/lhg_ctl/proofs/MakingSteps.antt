@@ -16,20 +16,26 @@ use Rattle.lhg_row.specs.Row.{PlainRow}
 use Rattle.lhg_row.proofs.Steps.{drop_cons}
 use Rattle.lhg_row.specs.Pieces.{make}
 use Rattle.lhg_row.specs.System.{PlainSystem}
+use Rattle.lhg_row.specs.Width.{AllWide}
 use Rattle.lhg_plant.specs.declared.plants.Location.{Location}
+use Rattle.lhg_plant.specs.declared.plants.Plant.{Plant}
 use Rattle.lhg_plant.specs.declared.plants.Switch.{Switch}
 use Rattle.lhg_plant.specs.Parts.{plain_location, plain_switch}
 use Rattle.lhg_plant.specs.Controller.{PlainController}
 use Rattle.lhg_plant.specs.Plant.{PlainPlant}
+use Rattle.lhg_plant.specs.Views.{plain_plant}
 use Rattle.lhg_math.specs.Tests.{AllOf}
 use Rattle.lhg_union.specs.PolyLists.{lines_of, AllVars}
 use Rattle.lhg_union.specs.Regions.{polys_of, polys_at, plain_region}
 use Rattle.lhg_union.proofs.ListFacts.{lines_of-append}
 use Rattle.lhg_row.specs.Members.{all-append}
+use Rattle.lhg_row_text.proofs.Members.{all_map_at}
 use Rattle.lhg_ctl.specs.AllOver.{AreAllOver}
 use Rattle.lhg_ctl.specs.Making.{put, inv_in, inv_at, source_in, source_at, line_at, line_made, all_made, controller_of}
 use Rattle.lhg_ctl.specs.Draft.{PlainDraft}
-use Rattle.lhg_ctl.specs.Views.{plain_placed}
+use Rattle.lhg_ctl.specs.DraftStates.{IsPlaced}
+use Rattle.lhg_ctl.specs.Views.{plain_placed, plain_draft}
+use Rattle.lhg_ctl.specs.declared.controllers.Draft.{Draft}
 use Rattle.lhg_ctl.proofs.NamedSteps.{same_count}
 
 -- a halt of the rest is one of the whole
@@ -165,11 +171,19 @@ pub end_rest : (a : PlainPlant) (loc : ℕ → ℕ) (whole : Marked (List (List 
 end_rest a loc whole lines i lists h r = (subst (λ ls. IsRest whole (walk (line_made a loc) lists (map plain_placed ls))) (drop_of_length-le lines h) r).same
 
 -- a line by its place and its rows
-pub line_is : (lines : List (ℕ × Vec PlainRow)) (i : ℕ) (x y : ℕ × Vec PlainRow) (d : List PlainRow) → i < length lines → x ≡ get_or lines i x → y ≡ get_or lines i y → d ≡ y.1.items → ((get_or lines i x).0, d) ≡ plain_placed x
-line_is [] i x y d h e f g = absurd (omega arith)
-line_is (l ∷ lines) zero x y d h e f g =
-    ap (λ (z : List PlainRow). (l.0, z)) (g ∙ ap (λ (w : ℕ × Vec PlainRow). w.1.items) (f ∙ sym e)) ∙ ap (λ (w : ℕ × Vec PlainRow). (w.0, x.1.items)) (sym e)
-line_is (l ∷ lines) (suc i) x y d h e f g = line_is lines i x y d (omega arith) e f g
+pub line_is : (lines : List (ℕ × Vec PlainRow)) (i : ℕ) (x y : ℕ × Vec PlainRow) (d : List PlainRow) → i < length lines → x ≡ get_or lines i x → d ≡ (get_or lines i y).1.items → ((get_or lines i x).0, d) ≡ plain_placed x
+line_is [] i x y d h e g = absurd (omega arith)
+line_is (l ∷ lines) zero x y d h e g = ap (λ (z : List PlainRow). (l.0, z)) (g ∙ ap (λ (w : ℕ × Vec PlainRow). w.1.items) (sym e)) ∙ ap (λ (w : ℕ × Vec PlainRow). (w.0, x.1.items)) (sym e)
+line_is (l ∷ lines) (suc i) x y d h e g = line_is lines i x y d (omega arith) e g
+
+module _ (n count : ℕ) (lines : List (ℕ × Vec PlainRow)) (i : ℕ) (x : ℕ × Vec PlainRow) (all : AllOf (IsPlaced n count) (map plain_placed lines)) (lt : i < length lines) (e : x ≡ get_or lines i x) where
+  -- the place of a line is there
+  pub place_below : (get_or lines i x).0 < count
+  place_below = subst (λ (w : ℕ × Vec PlainRow). w.0 < count) e (all_map_at (IsPlaced n count) plain_placed lines i x all lt e).place
+
+  -- its rows are over n variables
+  pub rows_wide : (rows : List PlainRow) → rows ≡ (get_or lines i x).1.items → AllWide n rows
+  rows_wide rows g = subst (AllWide n) (sym (g ∙ ap (λ (w : ℕ × Vec PlainRow). w.1.items) (sym e))) (all_map_at (IsPlaced n count) plain_placed lines i x all lt e).wide
 
 -- ---- the controller
 
@@ -190,9 +204,17 @@ guards_part a d n gs e f =
     (record { wide = λ h. h; rows = λ h. h; pieces = λ h. h })))
 
 -- its pieces and its guards
-pub controller_is : (a : PlainPlant) (d : PlainDraft) (n m : ℕ) (ps gs : List (ℕ × PlainPiece)) (region guards : List (List PlainPiece)) → n ≡ length a.locs → ps ≡ d.pieces → m ≡ length a.switches → gs ≡ d.guards
+controller_is : (a : PlainPlant) (d : PlainDraft) (n m : ℕ) (ps gs : List (ℕ × PlainPiece)) (region guards : List (List PlainPiece)) → n ≡ length a.locs → ps ≡ d.pieces → m ≡ length a.switches → gs ≡ d.guards
     → region ≡ (all_made a (λ l. l) n ps).value → guards ≡ (all_made a (source_at a) m gs).value → (let c : PlainController = record { region = region; guards = guards } in c ≡ (controller_of a d).value)
 unfolding controller_of
 controller_is a d n m ps gs region guards e f g h r s =
     ap (λ x. record { region = x; guards = guards }) (r ∙ ap (λ k. (all_made a (λ l. l) k ps).value) e ∙ ap (λ xs. (all_made a (λ l. l) (length a.locs) xs).value) f)
     ∙ ap (λ x. record { region = (all_made a (λ l. l) (length a.locs) d.pieces).value; guards = x }) (s ∙ ap (λ k. (all_made a (source_at a) k gs).value) g ∙ ap (λ xs. (all_made a (source_at a) (length a.switches) xs).value) h)
+
+-- the controller of a plant and a draft of the code
+pub made_controller : (plant : Plant) (draft : Draft) (ps gs : List (ℕ × Vec PlainRow)) (region guards : List (List PlainPiece)) → ps ≡ draft.pieces.items → gs ≡ draft.guards.items
+    → region ≡ (all_made (plain_plant plant) (λ l. l) (length plant.locs.items) (map plain_placed ps)).value → guards ≡ (all_made (plain_plant plant) (source_at (plain_plant plant)) (length plant.switches.items) (map plain_placed gs)).value
+    → (let c : PlainController = record { region = region; guards = guards } in c ≡ (controller_of (plain_plant plant) (plain_draft draft)).value)
+made_controller plant draft ps gs region guards e f r s =
+    controller_is (plain_plant plant) (plain_draft draft) (length plant.locs.items) (length plant.switches.items) (map plain_placed ps) (map plain_placed gs) region guards
+    (sym (length-map plant.locs.items plain_location)) (ap (map plain_placed) e) (sym (length-map plant.switches.items plain_switch)) (ap (map plain_placed) f) r s

@@ -1,14 +1,12 @@
 pub mod AllOver
 pub mod Conditions
 pub mod ControllerGrammar
-pub mod ControllerLaws
 pub mod ControllerLine
 pub mod ControllerSteps
 pub mod ControllerText
 pub mod Counted
 pub mod Draft
 pub mod DraftStates
-pub mod LogLaws
 pub mod LogText
 pub mod LogViews
 pub mod Making

@@ -10,7 +10,7 @@ use Rattle.lhg_plant.specs.State.{PlainState}
 use Rattle.lhg_read.specs.PlantText.{said_in}
 use Rattle.lhg_read.specs.PointText.{number_in, point_of}
 use Rattle.lhg_read.specs.Signs.{is_word, is_minus}
-use Rattle.lhg_read.specs.StateText.{state_of}
+use Rattle.lhg_read.specs.StateText.{state_by}
 use Rattle.lhg_read.specs.TokenText.{IsTextBy}
 use Rattle.lhg_ctl.specs.ControllerLine.{alone, is_uncontrollable, switch_in}
 
@@ -61,8 +61,7 @@ log_line p (first ∷ tokens) = log_by p first tokens
 
 -- the line `start LOCATION POINT`
 abbrev pub start_line : PlainPlant → List PlainToken → Option PlainState
-start_line p [] = None
-start_line p (first ∷ tokens) = if is_word (codes "start") first then state_of p tokens else None
+start_line p tokens = state_by (codes "start") p tokens
 
 -- ---- the text
 

@@ -1,14 +1,13 @@
-// The lines of a log.
+// One line of a log behind its start.
 ghost use Rattle.std.specs.Prelude.{◌≡◌, map, All};
 ghost use Rattle.std.specs.Option.{option_map};
 ghost use Rattle.lhg_lex.specs.TextTokens.{plain_of, IsSpan};
-ghost use Rattle.lhg_plant.specs.Views.{plain_plant, plain_state};
+ghost use Rattle.lhg_plant.specs.Views.{plain_plant};
 ghost use Rattle.lhg_read.specs.Lexed.{IsLexed};
 ghost use Rattle.lhg_read.specs.PointText as plain;
 ghost use Rattle.lhg_read.specs.Refusals.{IsRead};
 ghost use Rattle.lhg_read.specs.Signs as sign;
-ghost use Rattle.lhg_read.specs.StateText.{state_of};
-ghost use Rattle.lhg_ctl.specs.LogText.{signed_by, timed, flow_of, env_of, log_by, start_line, log_taken, with_line};
+ghost use Rattle.lhg_ctl.specs.LogText.{signed_by, timed, flow_of, env_of, log_by, log_taken, with_line};
 ghost use Rattle.lhg_ctl.specs.LogViews.{plain_entry, plain_open_log};
 
 use crate::entries::Entry;
@@ -16,8 +15,8 @@ use crate::open_logs::OpenLog;
 use crate::places::uncontrollable_named;
 use lhg_lex::{Lines, Tok, Token};
 use lhg_num::{Frac, Scalar};
-use lhg_plant::{Plant, State};
-use lhg_read::{Refusal, is_word, point_from, state_from};
+use lhg_plant::Plant;
+use lhg_read::{Refusal, is_word, point_from};
 use std::alloc::Global;
 
 // Whether the token is a `-`.
@@ -163,44 +162,5 @@ pub(crate) fn take_line(
     match tokens {
         [] => Err(Refusal::NotHere),
         [first, ..] => take_by(alloc, lines, plant, first, &tokens[1..], log),
-    }
-}
-
-// The state that the name of a location and a point are.
-fn state_behind(
-    alloc: Global,
-    lines: &Lines,
-    plant: &Plant,
-    tokens: &[Token],
-) -> Result<State, Refusal>
-    requires spans { All (IsSpan lines.now.bytes) tokens.now }
-    requires words { All (λ token. IsLexed (plain_of lines.now.bytes token)) tokens.now }
-    ensures { IsRead result (state_of (plain_plant plant.now) (map (plain_of lines.now.bytes) tokens.now)) plain_state }
-{
-    match tokens {
-        [] => Err(Refusal::NotHere),
-        [name, ..] => state_from(alloc, lines, plant, name, &tokens[1..]),
-    }
-}
-
-/// The state of the line `start LOCATION POINT`.
-pub(crate) fn start_from(
-    alloc: Global,
-    lines: &Lines,
-    plant: &Plant,
-    tokens: &[Token],
-) -> Result<State, Refusal>
-    requires spans { All (IsSpan lines.now.bytes) tokens.now }
-    requires words { All (λ token. IsLexed (plain_of lines.now.bytes token)) tokens.now }
-    ensures { IsRead result (start_line (plain_plant plant.now) (map (plain_of lines.now.bytes) tokens.now)) plain_state }
-{
-    match tokens {
-        [] => Err(Refusal::NotHere),
-        [first, ..] => {
-            if !is_word(lines, first, b"start") {
-                return Err(Refusal::NotHere);
-            }
-            state_behind(alloc, lines, plant, &tokens[1..])
-        }
     }
 }

@@ -6,11 +6,11 @@ ghost use Rattle.lhg_ctl.specs.LogText.{IsLog, IsSomeLogText};
 ghost use Rattle.lhg_ctl.specs.LogViews.{plain_log};
 
 use crate::entries::Entry;
-use crate::log_lines::{start_from, take_line};
+use crate::log_lines::take_line;
 use crate::open_logs::OpenLog;
 use lhg_lex::{Lines, ReadStop};
 use lhg_plant::{Plant, State};
-use lhg_read::{needed_line, stop_at};
+use lhg_read::{needed_line, state_by, stop_at};
 use std::alloc::Global;
 
 /// The log of the next lines, up to the line `end`: its start and its entries. After a refusal the lines are of the same text,
@@ -27,7 +27,7 @@ pub fn read_log(
     ensures bytes { OnErr result (lines.new.bytes ≡ lines.old.bytes) }
 {
     let line = needed_line(alloc, lines)?;
-    let start = match start_from(alloc, lines, plant, &line.tokens) {
+    let start = match state_by(alloc, lines, plant, b"start", &line.tokens) {
         Ok(start) => start,
         Err(refusal) => return Err(stop_at(refusal, line.number)),
     };

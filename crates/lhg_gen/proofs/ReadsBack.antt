@@ -6,8 +6,8 @@ use Rattle.lhg_lex.specs.declared.stops.What.{What}
 use Rattle.lhg_plant.specs.Plant.{PlainPlant}
 use Rattle.lhg_read.specs.PlantText.{IsPlant, IsPlantText, IsSomePlantText}
 use Rattle.lhg_read.specs.TokenText.{ReadsText, IsFirstFault}
-use Rattle.lhg_read.proofs.PlantEnds.{plant_text_laws}
-use Rattle.lhg_read.proofs.TextLawProofs.{text_laws}
+use Rattle.lhg_read.proofs.PlantEnds.{plant_end}
+use Rattle.lhg_read.proofs.TextLawProofs.{plant_reading}
 
 -- the whole text is to be read
 abbrev pub start : List ℕ → Reading
@@ -20,9 +20,9 @@ module _ (bytes : List ℕ) (a : PlainPlant) (t : IsPlantText (lines_of bytes) a
       let front = r.before ++ r.last ∷ [] in
       let more = left_of new in
       let whole : IsPlantText (front ++ more) a = subst (λ lines. IsPlantText lines a) r.read.left t in
-      let same : IsPlantText (front ++ more) p = plant_text_laws.goes_on front more p r.text (plant_text_laws.ends front more p a r.text whole) in
-      text_laws.plant (front ++ more) p a same whole
+      let same : IsPlantText (front ++ more) p = plant_end.goes_on front more p r.text (plant_end.ends front more p a r.text whole) in
+      plant_reading.one_value (front ++ more) p a same whole
 
   -- and the text is not refused
   pub not_refused : (line column : ℕ) (what : What) → IsFirstFault IsSomePlantText (start bytes) line column what → ⊥
-  not_refused line column what h = text_laws.no_bad_line (lines_of bytes) h.n (record { tokens = t.tokens; are = t.are; is = (a, t.is) }) h.first
+  not_refused line column what h = plant_reading.no_bad_line (lines_of bytes) h.n (record { tokens = t.tokens; are = t.are; is = (a, t.is) }) h.first

@@ -100,13 +100,13 @@ module _ {V W : Type 0} (First : List (List ℕ) → V → Type 0) (Second : V �
     none_before k value e t =
         let behind = drop k r.front in
         let whole : r.front ≡ t.front ++ (t.rest ++ behind) = sym (take-append-drop k r.front) ∙ ap (λ ls. ls ++ behind) (e ∙ t.lines_are) ∙ append_assoc t.front t.rest behind in
-        let blank = a.ends t.front (t.rest ++ behind) value.0 v t.first (subst (λ ls. First ls v) whole r.text) in
+        let blank = a.end.ends t.front (t.rest ++ behind) value.0 v t.first (subst (λ ls. First ls v) whole r.text) in
         let longer : IsThen First Second r.front value = record {
           front = t.front;
           rest = t.rest ++ behind;
           lines_are = whole;
           first = t.first;
-          second = (b value.0).part.goes_on t.rest behind value.1 t.second (blank_rest t.rest behind blank);
+          second = (b value.0).part.end.goes_on t.rest behind value.1 t.second (blank_rest t.rest behind blank);
         } in
         second_of r.front [] value (sym (append-nil r.front)) longer
 

@@ -1,13 +1,13 @@
 -- Parts of an input, one behind the other: what is said of each part holds of the whole.
 use Rattle.std.proofs.Common.{◌≡◌, inl, inr, ℕ, List, ◌++◌, sym, ap, ◌∙◌, subst, append_assoc}
 use Rattle.lhg_read.specs.Rest.{AreBlank}
+use Rattle.lhg_read.specs.TextLaws.{HasBlankEnd}
 use Rattle.lhg_input.specs.Then.{IsThen}
 use Rattle.lhg_input.proofs.Splits.{split}
 
 -- blank lines may follow a text of the grammar; where it goes on as one only blank lines do; and it has one value at most
 pub record IsPart {V : Type 0} (Is : List (List ℕ) → V → Type 0) : Type 0 where
-  pub goes_on : (lines more : List (List ℕ)) (v : V) → Is lines v → AreBlank more → Is (lines ++ more) v
-  pub ends : (lines more : List (List ℕ)) (v w : V) → Is lines v → Is (lines ++ more) w → AreBlank more
+  pub end : HasBlankEnd Is
   pub one_value : (lines : List (List ℕ)) (v w : V) → Is lines v → Is lines w → v ≡ w
 
 -- blank lines may stand in front of it too, and change nothing
@@ -25,13 +25,13 @@ module _ {V W : Type 0} (First : List (List ℕ) → V → Type 0) (Second : V �
   behind_first front more v value h t = elim (split front more t.front t.rest t.lines_are) [
     | inl l ↦
         let text : First (front ++ l.between) value.0 = subst (λ ls. First ls value.0) l.front t.first in
-        let blank = a.ends front l.between v value.0 h text in
-        let same : value.0 ≡ v = a.one_value (front ++ l.between) value.0 v text (a.goes_on front l.between v h blank) in
+        let blank = a.end.ends front l.between v value.0 h text in
+        let same : value.0 ≡ v = a.one_value (front ++ l.between) value.0 v text (a.end.goes_on front l.between v h blank) in
         (same, subst (λ ls. Second v ls value.1) (sym l.rest) ((b v).put l.between t.rest value.1 blank (subst (λ u. Second u t.rest value.1) same t.second)))
     | inr l ↦
         let text : First (t.front ++ l.between) v = subst (λ ls. First ls v) l.front h in
-        let blank = a.ends t.front l.between value.0 v t.first text in
-        let same : value.0 ≡ v = a.one_value (t.front ++ l.between) value.0 v (a.goes_on t.front l.between value.0 t.first blank) text in
+        let blank = a.end.ends t.front l.between value.0 v t.first text in
+        let same : value.0 ≡ v = a.one_value (t.front ++ l.between) value.0 v (a.end.goes_on t.front l.between value.0 t.first blank) text in
         (same, (b v).dropped l.between more value.1 blank (subst (λ ls. Second v ls value.1) l.rest (subst (λ u. Second u t.rest value.1) same t.second)))
   ]
 
@@ -42,16 +42,18 @@ module _ {V W : Type 0} (First : List (List ℕ) → V → Type 0) (Second : V �
   -- both together are a part again
   pub both_parts : IsPart (IsThen First Second)
   both_parts = record {
-    goes_on = λ lines more v h blank. record {
-      front = h.front;
-      rest = h.rest ++ more;
-      lines_are = ap (λ ls. ls ++ more) h.lines_are ∙ append_assoc h.front h.rest more;
-      first = h.first;
-      second = (b v.0).part.goes_on h.rest more v.1 h.second blank;
+    end = record {
+      goes_on = λ lines more v h blank. record {
+        front = h.front;
+        rest = h.rest ++ more;
+        lines_are = ap (λ ls. ls ++ more) h.lines_are ∙ append_assoc h.front h.rest more;
+        first = h.first;
+        second = (b v.0).part.end.goes_on h.rest more v.1 h.second blank;
+      };
+      ends = λ lines more v w h k.
+          let s = behind_first h.front (h.rest ++ more) v.0 w h.first (further lines more v w h k) in
+          (b v.0).part.end.ends h.rest more v.1 w.1 h.second s.1;
     };
-    ends = λ lines more v w h k.
-        let s = behind_first h.front (h.rest ++ more) v.0 w h.first (further lines more v w h k) in
-        (b v.0).part.ends h.rest more v.1 w.1 h.second s.1;
     one_value = λ lines v w h k.
         let s = behind_first h.front h.rest v.0 w h.first (subst (λ ls. IsThen First Second ls w) h.lines_are k) in
         same_pair v w (sym s.0) ((b v.0).part.one_value h.rest v.1 w.1 h.second s.1);

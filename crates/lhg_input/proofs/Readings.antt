@@ -57,10 +57,6 @@ module _ (A B : List (List ℕ) → Type 0) (to : (lines : List (List ℕ)) → 
     bad = elim h.bad [ inl e ↦ inl (e.0, λ c. e.1 (stood_before (take n lines) c)) | inr e ↦ inr (e.0, λ t. e.1 (back lines t)) ];
   }
 
-  pub same_bad_line : (bytes : List ℕ) (stop : ReadStop) → HasBadLine A bytes stop → HasBadLine B bytes stop
-  same_bad_line bytes Memory h = tt
-  same_bad_line bytes (Bad line column what) h = record { first = same_first (lines_of bytes) line h.first; fault = h.fault }
-
   pub same_cause : (s : Reading) (stop : ReadStop) → HasCause A s stop → HasCause B s stop
   same_cause s Memory h = tt
   same_cause s (Bad line column what) h = record {
@@ -95,7 +91,7 @@ blank_behind (x ∷ blanks) line more h = blank_behind blanks line more h.1
 module _ {V : Type 0} (Is : List (List ℕ) → V → Type 0) (a : IsPart Is) (bytes : List ℕ) (s : Reading) (v : V) (r : Stands Is bytes s v) where
   -- nothing is left but blank lines
   pub input_ends : IsAtEnd s → Is (lines_of bytes) v
-  input_ends h = subst (λ ls. Is ls v) (sym r.left) (a.goes_on r.front (left_of s) v r.text h.blank)
+  input_ends h = subst (λ ls. Is ls v) (sym r.left) (a.end.goes_on r.front (left_of s) v r.text h.blank)
 
   -- a further line is one too many
   pub surplus_refused : (stop : ReadStop) → HasSurplus s stop → HasBadLine (IsSome Is) bytes stop
@@ -118,12 +114,12 @@ module _ {V : Type 0} (Is : List (List ℕ) → V → Type 0) (a : IsPart Is) (b
       record {
         first = record {
           counted = omega (arith, counted);
-          before = ([], record { value = v; text = subst (λ ls. Is ls v) (sym (append-nil (take (line - 1) (lines_of bytes)) ∙ before)) (a.goes_on r.front blanks v r.text h.next.blank) });
+          before = ([], record { value = v; text = subst (λ ls. Is ls v) (sym (append-nil (take (line - 1) (lines_of bytes)) ∙ before)) (a.end.goes_on r.front blanks v r.text h.next.blank) });
           bad = inl (
             omega (arith, place, long, counted),
             λ c.
                 let text = subst (λ ls. Is ls c.1.value) (ap (λ ls. ls ++ c.0) up_to ∙ append_assoc (r.front ++ blanks) (here ∷ []) c.0 ∙ append_assoc r.front blanks (here ∷ c.0)) c.1.text in
-                h.not_blank (blank_behind blanks here c.0 (a.ends r.front (blanks ++ here ∷ c.0) v c.1.value r.text text)),
+                h.not_blank (blank_behind blanks here c.0 (a.end.ends r.front (blanks ++ here ∷ c.0) v c.1.value r.text text)),
           );
         };
         fault = ap fault_at (ap (λ k. slice_get (lines_of bytes) k) place ∙ ap (λ ls. slice_get ls (length (r.front ++ blanks))) lines ∙ get_at (r.front ++ blanks) here rest) ∙ h.fault;

@@ -3,16 +3,11 @@ use Rattle.std.specs.Prelude.{ℕ, List}
 use Rattle.lhg_plant.specs.Plant.{PlainPlant}
 use Rattle.lhg_plant.specs.State.{PlainState}
 use Rattle.lhg_read.specs.PlantText.{IsPlantText}
-use Rattle.lhg_read.specs.StateText.{IsStateText}
-use Rattle.lhg_read.specs.TokenText.{IsTextBy}
+use Rattle.lhg_read.specs.StateText.{IsStateLines}
 use Rattle.lhg_ctl.specs.ControllerGrammar.{IsControllerText}
 use Rattle.lhg_ctl.specs.Draft.{PlainDraft}
 use Rattle.lhg_ctl.specs.LogText.{PlainLog, IsLogText}
 use Rattle.lhg_input.specs.Then.{IsThen}
-
--- the lines are a state of the plant
-abbrev pub IsStateLines : PlainPlant → List (List ℕ) → PlainState → Type 0
-IsStateLines a lines s = IsTextBy (λ tokens. IsStateText a tokens s) lines
 
 -- the text of a plant, then that of a controller of it
 abbrev pub IsControllerInput : List (List ℕ) → PlainPlant × PlainDraft → Type 0

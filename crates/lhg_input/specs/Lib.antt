@@ -1,4 +1,3 @@
 pub mod BadLine
-pub mod InputLaws
 pub mod Inputs
 pub mod Then

@@ -3,8 +3,9 @@ ghost use Rattle.std.specs.Prelude.{◌≤◌, length, IfOk, IfErr};
 ghost use Rattle.lhg_lex.specs.Lines.{lines_of, most_bytes};
 ghost use Rattle.lhg_plant.specs.Printable.{IsPrintable};
 ghost use Rattle.lhg_plant.specs.Views.{plain_plant};
-ghost use Rattle.lhg_read.specs.PlantText.{IsPlantText, IsSomePlantText};
+ghost use Rattle.lhg_read.specs.PlantText.{IsPlantText};
 ghost use Rattle.lhg_input.specs.BadLine.{HasBadLine};
+ghost use Rattle.lhg_input.specs.Then.{IsSome};
 
 use lhg_lex::{Lines, ReadStop};
 use lhg_plant::Plant;
@@ -19,7 +20,7 @@ pub fn read_plant_input(alloc: Global, bytes: &[u8]) -> Result<Plant, ReadStop>
     // a plant that is read can be printed
     ensures printable { IfOk result (λ p. IsPrintable (plain_plant p)) }
     // the lines are no plant, and this is the first that cannot stand where it does
-    ensures err { IfErr result (HasBadLine IsSomePlantText bytes.now) }
+    ensures err { IfErr result (HasBadLine (IsSome IsPlantText) bytes.now) }
 {
     let mut lines = Lines::new(bytes);
     let plant = read_plant(alloc, &mut lines)?;

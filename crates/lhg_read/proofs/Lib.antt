@@ -29,5 +29,6 @@ pub mod StateLines
 pub mod StateReading
 pub mod StateSteps
 pub mod SumSteps
+pub mod TextEnds
 pub mod TextLawProofs
 pub mod VariableSteps

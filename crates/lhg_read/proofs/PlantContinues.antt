@@ -1,7 +1,7 @@
 -- From each state of the reader some further lines make a plant.
 use Rattle.std.proofs.Common.{◌≡◌, ◌≤◌, ℕ, List, [], ◌∷◌, ◌++◌, length, map, refl, sym, ap, ◌∙◌, subst, true, false, cond, Some, None, Ok, arith, append-nil, length-append, codes}
 use Rattle.std.specs.Option.{option_and_then}
-use Rattle.std.proofs.lemmas.List.{length-map, map-append}
+use Rattle.std.proofs.lemmas.List.{length-map}
 use Rattle.lhg_math.specs.Number.{unit}
 use Rattle.lhg_math.specs.Tests.{false_true}
 use Rattle.lhg_lex.specs.PlainToken.{PlainToken, word, number}
@@ -9,15 +9,15 @@ use Rattle.lhg_lex.specs.Longest.{longest}
 use Rattle.lhg_lex.specs.LineTokens.{Spot, tokens_of}
 use Rattle.lhg_read.specs.PlantLine.{line_of}
 use Rattle.lhg_read.specs.PlantText.{location_of, said_in, IsHead, IsPlant, IsSomePlant}
-use Rattle.lhg_read.specs.PlantSteps.{PlainDraft, empty_draft, is_nil, taken, all_taken, plant_with}
+use Rattle.lhg_read.specs.PlantSteps.{PlainDraft, empty_draft, is_nil, taken, taken_at, has_ended, plant_with}
 use Rattle.lhg_read.specs.Reads.{CanGoOn}
 use Rattle.lhg_read.specs.ReadsLaws.{on_by}
 use Rattle.lhg_read.specs.Begun.{IsBegun}
 use Rattle.lhg_read.proofs.PlantParts.{not_nil}
-use Rattle.lhg_read.specs.MachineLaws.{going_on}
+use Rattle.lhg_read.specs.Machine.{all_taken}
+use Rattle.lhg_read.specs.MachineLaws.{going_on, taken-append}
 use Rattle.lhg_read.proofs.PlantStates.{State, nothing, stands, ends, states}
 use Rattle.lhg_read.proofs.PlantTexts.{Say, say_all, plant_of_begun}
-use Rattle.lhg_read.proofs.PlantRefusals.{all_taken-append}
 
 -- ---- four lines
 
@@ -71,8 +71,8 @@ begun_more lines vars d e spots b going h = record {
   head_is = b.head_is;
   vars_are = b.vars_are;
   taken =
-      ap (all_taken vars empty_draft) (map-append said_in b.rest (spots ∷ [])) ∙ all_taken-append vars empty_draft (map said_in b.rest) (map said_in (spots ∷ []))
-      ∙ ap (option_and_then (λ x. all_taken vars x (map said_in (spots ∷ [])))) b.taken ∙ going_on d.ended _ going ∙ ap (option_and_then (λ x. all_taken vars x [])) h;
+      taken-append PlainDraft (taken_at vars) has_ended empty_draft b.rest (spots ∷ []) ∙ ap (option_and_then (λ x. all_taken (taken_at vars) has_ended x (spots ∷ []))) b.taken
+      ∙ going_on d.ended _ going ∙ ap (option_and_then (λ x. all_taken (taken_at vars) has_ended x [])) h;
 }
 
 -- ---- the states

@@ -1,36 +1,20 @@
 -- Where the lines so far cannot go on.
-use Rattle.std.proofs.Common.{◌≡◌, ℕ, List, [], ◌∷◌, ◌++◌, map, refl, sym, ap, ◌∙◌, subst, Bool, true, false, cond, Option, Some, None}
+use Rattle.std.proofs.Common.{◌≡◌, ℕ, List, [], ◌∷◌, ◌++◌, sym, ap, ◌∙◌, subst, true, false, Option, Some, None}
 use Rattle.std.specs.Option.{option_and_then}
-use Rattle.std.proofs.lemmas.List.{map-append}
 use Rattle.std.proofs.lemmas.Option.{none-some, same_Some}
-use Rattle.lhg_math.specs.Tests.{false_true}
-use Rattle.lhg_lex.specs.PlainToken.{PlainToken}
 use Rattle.lhg_lex.specs.LineTokens.{Spot}
 use Rattle.lhg_plant.specs.Plant.{PlainPlant}
 use Rattle.lhg_read.specs.Names.{vars_of}
 use Rattle.lhg_read.specs.PlantText.{said_in, IsHead, IsPlant, IsSomePlant}
-use Rattle.lhg_read.specs.PlantSteps.{PlainDraft, empty_draft, taken, all_taken, plant_with}
+use Rattle.lhg_read.specs.PlantSteps.{PlainDraft, empty_draft, taken, taken_at, has_ended, plant_with}
 use Rattle.lhg_read.specs.Begun.{IsBegun}
-use Rattle.lhg_read.specs.MachineLaws.{ended_none}
+use Rattle.lhg_read.specs.Machine.{all_taken}
+use Rattle.lhg_read.specs.MachineLaws.{taken-append, stays_ended, none_taken}
 use Rattle.lhg_read.proofs.PlantTexts.{begun_of_plant}
-
--- lines behind other lines
-pub all_taken-append : (vars : List (List ℕ)) (d : PlainDraft) (xs ys : List (List PlainToken)) → all_taken vars d (xs ++ ys) ≡ option_and_then (λ e. all_taken vars e ys) (all_taken vars d xs)
-all_taken-append vars d [] ys = refl
-all_taken-append vars d (x ∷ xs) ys = by_end d.ended (taken vars d x) (λ e. all_taken-append vars e xs ys)
-  where
-    by_end : (b : Bool) (o : Option PlainDraft) → ((e : PlainDraft) → all_taken vars e (xs ++ ys) ≡ option_and_then (λ f. all_taken vars f ys) (all_taken vars e xs))
-        → cond b None (option_and_then (λ e. all_taken vars e (xs ++ ys)) o) ≡ option_and_then (λ e. all_taken vars e ys) (cond b None (option_and_then (λ e. all_taken vars e xs) o))
-    by_end true o f = refl
-    by_end false None f = refl
-    by_end false (Some e) f = f e
 
 -- a list that begins with three parts has one reading
 pub same_three : (a b c d : List Spot) (xs ys : List (List Spot)) → a ∷ b ∷ xs ≡ c ∷ d ∷ ys → (a ≡ c) × (b ≡ d) × (xs ≡ ys)
 same_three a b c d xs ys e = (cc, cc, cc)
-
-same_vars : (v w : List (List ℕ)) → Some v ≡ Some w → v ≡ w
-same_vars v w e = cc
 
 -- ---- before the variables are known
 
@@ -72,27 +56,20 @@ none_at_head head (x ∷ y ∷ a) b e h = one_line head x y (a ++ b) e
 
 module _ (lines : List (List Spot)) (vars : List (List ℕ)) (d : PlainDraft) (b : IsBegun lines vars d) where
   -- what a plant that begins so has taken
-  pub goes_on : (more : List (List Spot)) (p : PlainPlant) → IsPlant (lines ++ more) p → (e : PlainDraft) × (all_taken vars d (map said_in more) ≡ Some e) × (e.ended ≡ true) × (plant_with vars e ≡ p)
+  pub goes_on : (more : List (List Spot)) (p : PlainPlant) → IsPlant (lines ++ more) p → (e : PlainDraft) × (all_taken (taken_at vars) has_ended d more ≡ Some e) × (e.ended ≡ true) × (plant_with vars e ≡ p)
   goes_on more p h =
       let g = begun_of_plant (lines ++ more) p h in
       let f = g.1 in
       let t = same_three b.head b.names f.head f.names (b.rest ++ more) f.rest (ap (λ ls. ls ++ more) (sym b.lines_are) ∙ f.lines_are) in
-      let v : vars ≡ p.vars = same_vars vars p.vars (sym b.vars_are ∙ ap (λ l. vars_of (said_in l)) t.1 ∙ f.vars_are) in
-      let all : all_taken vars empty_draft (map said_in (b.rest ++ more)) ≡ Some g.0 = ap (λ w. all_taken w empty_draft (map said_in (b.rest ++ more))) v ∙ ap (λ ls. all_taken p.vars empty_draft (map said_in ls)) t.2 ∙ f.taken in
-      let rest : all_taken vars d (map said_in more) ≡ Some g.0 =
-      ap (option_and_then (λ e. all_taken vars e (map said_in more))) (sym b.taken) ∙ sym (all_taken-append vars empty_draft (map said_in b.rest) (map said_in more))
-      ∙ ap (all_taken vars empty_draft) (sym (map-append said_in b.rest more)) ∙ all in
+      let v : vars ≡ p.vars = same_Some vars p.vars (sym b.vars_are ∙ ap (λ l. vars_of (said_in l)) t.1 ∙ f.vars_are) in
+      let all : all_taken (taken_at vars) has_ended empty_draft (b.rest ++ more) ≡ Some g.0 = ap (λ w. all_taken (taken_at w) has_ended empty_draft (b.rest ++ more)) v ∙ ap (all_taken (taken_at p.vars) has_ended empty_draft) t.2 ∙ f.taken in
+      let rest : all_taken (taken_at vars) has_ended d more ≡ Some g.0 =
+      ap (option_and_then (λ e. all_taken (taken_at vars) has_ended e more)) (sym b.taken) ∙ sym (taken-append PlainDraft (taken_at vars) has_ended empty_draft b.rest more) ∙ all in
       (g.0, rest, g.2, ap (λ w. plant_with w g.0) v ∙ g.3)
 
   -- a line that is not taken
   pub no_line : (line : List Spot) (more : List (List Spot)) (p : PlainPlant) → taken vars d (said_in line) ≡ None → ¬ IsPlant (lines ++ line ∷ more) p
-  no_line line more p bad h =
-      let g = goes_on (line ∷ more) p h in
-      absurd (none-some g.0 (sym (by_end d.ended) ∙ ap (λ o. cond d.ended None (option_and_then (λ x. all_taken vars x (map said_in more)) o)) (sym bad) ∙ g.1))
-    where
-      by_end : (b : Bool) → cond b None (let x : Option PlainDraft = None in x) ≡ None
-      by_end true = refl
-      by_end false = refl
+  no_line line more p bad h = let g = goes_on (line ∷ more) p h in absurd (none-some g.0 (sym (none_taken PlainDraft (taken_at vars) has_ended d line more bad) ∙ g.1))
 
 -- no beginning of lines that have not ended is a plant
 pub none_yet : (lines : List (List Spot)) (vars : List (List ℕ)) (d : PlainDraft) → IsBegun lines vars d → d.ended ≡ false → (a b : List (List Spot)) → lines ≡ a ++ b → ¬ IsSomePlant a
@@ -100,15 +77,8 @@ none_yet lines vars d b going first rest e h =
     let g = begun_of_plant first h.0 h.1 in
     let f = g.1 in
     let t = same_three b.head b.names f.head f.names b.rest (f.rest ++ rest) (sym b.lines_are ∙ e ∙ ap (λ ls. ls ++ rest) f.lines_are) in
-    let v : vars ≡ h.0.vars = same_vars vars h.0.vars (sym b.vars_are ∙ ap (λ l. vars_of (said_in l)) t.1 ∙ f.vars_are) in
-    let all : all_taken h.0.vars g.0 (map said_in rest) ≡ Some d =
-    sym (
-    ap (λ ls. all_taken h.0.vars empty_draft (map said_in ls)) t.2
-    ∙ ap (all_taken h.0.vars empty_draft) (map-append said_in f.rest rest) ∙ all_taken-append h.0.vars empty_draft (map said_in f.rest) (map said_in rest)
-    ∙ ap (option_and_then (λ x. all_taken h.0.vars x (map said_in rest))) f.taken
-    ) ∙ ap (λ w. all_taken w empty_draft (map said_in b.rest)) (sym v) ∙ b.taken in
-    by_rest h.0.vars g.0 rest g.2 all
-  where
-    by_rest : (w : List (List ℕ)) (x : PlainDraft) (more : List (List Spot)) → x.ended ≡ true → all_taken w x (map said_in more) ≡ Some d → ⊥
-    by_rest w x [] t k = false_true (sym going ∙ ap (λ (y : PlainDraft). y.ended) (sym (same_Some x d k)) ∙ t)
-    by_rest w x (l ∷ more) t k = absurd (none-some d (sym (ended_none x.ended _ t) ∙ k))
+    let v : vars ≡ h.0.vars = same_Some vars h.0.vars (sym b.vars_are ∙ ap (λ l. vars_of (said_in l)) t.1 ∙ f.vars_are) in
+    let all : all_taken (taken_at h.0.vars) has_ended g.0 rest ≡ Some d =
+    ap (option_and_then (λ x. all_taken (taken_at h.0.vars) has_ended x rest)) (sym f.taken) ∙ sym (taken-append PlainDraft (taken_at h.0.vars) has_ended empty_draft f.rest rest)
+    ∙ ap (all_taken (taken_at h.0.vars) has_ended empty_draft) (sym t.2) ∙ ap (λ w. all_taken (taken_at w) has_ended empty_draft b.rest) (sym v) ∙ b.taken in
+    stays_ended PlainDraft (taken_at h.0.vars) has_ended g.0 d rest g.2 going all

@@ -7,8 +7,9 @@ use Rattle.lhg_lex.specs.LineTokens.{Spot}
 use Rattle.lhg_plant.specs.Plant.{PlainLocation, PlainSwitch, PlainPlant}
 use Rattle.lhg_read.specs.PlantLine.{PlantLine, line_of}
 use Rattle.lhg_read.specs.PlantText.{plant_lines, said_in, IsPlant}
-use Rattle.lhg_read.specs.PlantSteps.{PlainDraft, empty_draft, step, steps, all_taken, plant_with}
+use Rattle.lhg_read.specs.PlantSteps.{PlainDraft, empty_draft, step, steps, taken_at, has_ended, plant_with}
 use Rattle.lhg_read.specs.Begun.{IsBegun}
+use Rattle.lhg_read.specs.Machine.{all_taken}
 use Rattle.lhg_read.specs.MachineLaws.{going_on, ended_none}
 use Rattle.lhg_read.proofs.PlantStates.{State, nothing, stands, ends, states}
 use Rattle.lhg_read.proofs.PlantRuns.{plant_taken}
@@ -20,17 +21,17 @@ abbrev pub said_lines : List (List ℕ) → List (List Spot) → List (Option Pl
 said_lines vars lines = map (λ line. line_of vars (said_in line)) lines
 
 -- lines that say these are taken as these
-taken_as : (vars : List (List ℕ)) (lines : List (List Spot)) (ls : List PlantLine) (d : PlainDraft) → said_lines vars lines ≡ map (λ l. Some l) ls → all_taken vars d (map said_in lines) ≡ steps (length vars) d ls
+taken_as : (vars : List (List ℕ)) (lines : List (List Spot)) (ls : List PlantLine) (d : PlainDraft) → said_lines vars lines ≡ map (λ l. Some l) ls → all_taken (taken_at vars) has_ended d lines ≡ steps (length vars) d ls
 taken_as vars [] [] d e = refl
 taken_as vars [] (l ∷ ls) d e = absurd cc
 taken_as vars (line ∷ lines) [] d e = absurd cc
 taken_as vars (line ∷ lines) (l ∷ ls) d e =
     let h : line_of vars (said_in line) ≡ Some l = cc in
     let t : said_lines vars lines ≡ map (λ x. Some x) ls = cc in
-    ap (λ o. cond d.ended None (option_and_then (λ x. all_taken vars x (map said_in lines)) (option_and_then (step (length vars) d) o))) h
+    ap (λ o. cond d.ended None (option_and_then (λ x. all_taken (taken_at vars) has_ended x lines) (option_and_then (step (length vars) d) o))) h
     ∙ ap (λ o. cond d.ended None o) (by_step (step (length vars) d l) (λ x. taken_as vars lines ls x t))
   where
-    by_step : (o : Option PlainDraft) → ((x : PlainDraft) → all_taken vars x (map said_in lines) ≡ steps (length vars) x ls) → option_and_then (λ x. all_taken vars x (map said_in lines)) o ≡ option_and_then (λ x. steps (length vars) x ls) o
+    by_step : (o : Option PlainDraft) → ((x : PlainDraft) → all_taken (taken_at vars) has_ended x lines ≡ steps (length vars) x ls) → option_and_then (λ x. all_taken (taken_at vars) has_ended x lines) o ≡ option_and_then (λ x. steps (length vars) x ls) o
     by_step None f = refl
     by_step (Some x) f = f x
 
@@ -40,19 +41,19 @@ pub record Say (vars : List (List ℕ)) (lines : List (List Spot)) (d e : PlainD
   pub are : said_lines vars lines ≡ map (λ l. Some l) all
   pub stepped : steps (length vars) d all ≡ Some e
 
-pub say_all : (vars : List (List ℕ)) (lines : List (List Spot)) (d e : PlainDraft) → all_taken vars d (map said_in lines) ≡ Some e → Say vars lines d e
+pub say_all : (vars : List (List ℕ)) (lines : List (List Spot)) (d e : PlainDraft) → all_taken (taken_at vars) has_ended d lines ≡ Some e → Say vars lines d e
 say_all vars [] d e h = record { all = []; are = refl; stepped = h }
 say_all vars (line ∷ lines) d e h =
     by_bool d.ended
     (λ t. absurd (none-some e (sym (ended_none d.ended _ t) ∙ h)))
     (λ t. by_line t (line_of vars (said_in line)) refl (sym (going_on d.ended _ t) ∙ h) (λ x k. say_all vars lines x e k))
   where
-    by_line : d.ended ≡ false → (o : Option PlantLine) → line_of vars (said_in line) ≡ o → option_and_then (λ x. all_taken vars x (map said_in lines)) (option_and_then (step (length vars) d) o) ≡ Some e
-        → ((x : PlainDraft) → all_taken vars x (map said_in lines) ≡ Some e → Say vars lines x e) → Say vars (line ∷ lines) d e
+    by_line : d.ended ≡ false → (o : Option PlantLine) → line_of vars (said_in line) ≡ o → option_and_then (λ x. all_taken (taken_at vars) has_ended x lines) (option_and_then (step (length vars) d) o) ≡ Some e
+        → ((x : PlainDraft) → all_taken (taken_at vars) has_ended x lines ≡ Some e → Say vars lines x e) → Say vars (line ∷ lines) d e
     by_line t None p k f = absurd (none-some e k)
     by_line t (Some l) p k f = by_draft (step (length vars) d l) refl k
       where
-        by_draft : (o : Option PlainDraft) → step (length vars) d l ≡ o → option_and_then (λ x. all_taken vars x (map said_in lines)) o ≡ Some e → Say vars (line ∷ lines) d e
+        by_draft : (o : Option PlainDraft) → step (length vars) d l ≡ o → option_and_then (λ x. all_taken (taken_at vars) has_ended x lines) o ≡ Some e → Say vars (line ∷ lines) d e
         by_draft None q k = absurd (none-some e k)
         by_draft (Some x) q k =
             let r = f x k in

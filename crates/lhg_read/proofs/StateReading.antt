@@ -1,7 +1,6 @@
 -- A state is read of one line: what holds then, and where the line cannot stand.
 use Rattle.std.proofs.Common.{◌≡◌, List, [], ◌∷◌, map, refl, sym, ap, ◌∙◌, Bool, true, Option, Some, None}
 use Rattle.lhg_math.specs.Tests.{false_true}
-use Rattle.lhg_lex.specs.PlainToken.{PlainToken}
 use Rattle.lhg_lex.specs.LineTokens.{Spot}
 use Rattle.lhg_lex.specs.TextTokens.{plain_of}
 use Rattle.lhg_lex.specs.Reading.{Reading, IsTokenLine}
@@ -26,8 +25,8 @@ module _ (p : PlainPlant) (can : CanGoOn (IsSomeState p) []) (old : Reading) whe
   abbrev begin_at : List Spot → Option PlainState
   begin_at line = state_line p (said_in line)
 
-  abbrev none_behind : PlainState → List PlainToken → Option PlainState
-  none_behind s tokens = None
+  abbrev none_behind : PlainState → List Spot → Option PlainState
+  none_behind s line = None
 
   abbrev has_ended : PlainState → Bool
   has_ended s = true

@@ -1,5 +1,5 @@
 -- A state is read part by part: the word, the location, the point.
-use Rattle.std.proofs.Common.{◌≡◌, ◌<◌, ◌≤◌, ◌-◌, ℕ, List, [], ◌∷◌, length, take, drop, map, refl, sym, ap, ◌∙◌, true, false, Option, Some, None, arith, get_or, codes}
+use Rattle.std.proofs.Common.{◌≡◌, ◌<◌, ◌≤◌, ◌-◌, ℕ, List, [], ◌∷◌, length, take, drop, map, refl, sym, ap, ◌∙◌, true, false, Option, Some, None, arith, get_or}
 use Rattle.std.specs.List.{position}
 use Rattle.std.specs.Option.{option_and_then}
 use Rattle.std.specs.Str.{bytes_eq}
@@ -16,7 +16,7 @@ use Rattle.lhg_read.specs.Names.{name_of}
 use Rattle.lhg_read.specs.PlantSteps.{loc_names}
 use Rattle.lhg_read.specs.PointText.{point_of}
 use Rattle.lhg_read.specs.Signs.{is_word}
-use Rattle.lhg_read.specs.StateText.{location_in, state_of, state_line}
+use Rattle.lhg_read.specs.StateText.{location_in, state_of, state_by}
 use Rattle.lhg_read.specs.Term.{place_of}
 use Rattle.lhg_read.proofs.DraftSteps.{place_locs}
 
@@ -34,25 +34,26 @@ state_is p name point loc at e f = rw (e, f) refl
 
 -- ---- the line
 
--- less than two tokens
-pub too_short : (p : PlainPlant) (text : List ℕ) (tokens : List Token) → length tokens < 2 → state_line p (map (plain_of text) tokens) ≡ None
-unfolding state_line
-too_short p text [] h = refl
-too_short p text (a ∷ []) h = by_bool (is_word (codes "state") (plain_of text a)) (λ t. rw t refl) (λ t. rw t refl)
-too_short p text (a ∷ b ∷ tokens) h = absurd (omega arith)
+module _ (w : List ℕ) (p : PlainPlant) (text : List ℕ) where
+  -- less than two tokens
+  pub too_short : (tokens : List Token) → length tokens < 2 → state_by w p (map (plain_of text) tokens) ≡ None
+  unfolding state_by
+  too_short [] h = refl
+  too_short (a ∷ []) h = by_bool (is_word w (plain_of text a)) (λ t. rw t refl) (λ t. rw t refl)
+  too_short (a ∷ b ∷ tokens) h = absurd (omega arith)
 
--- another word
-pub other_word : (p : PlainPlant) (text : List ℕ) (tokens : List Token) (first : Token) → 2 ≤ length tokens → first ≡ get_or tokens 0 first → is_word (codes "state") (plain_of text first) ≡ false → state_line p (map (plain_of text) tokens) ≡ None
-unfolding state_line
-other_word p text [] first h d f = absurd (omega arith)
-other_word p text (a ∷ tokens) first h d f = let g : is_word (codes "state") (plain_of text a) ≡ false = ap (λ x. is_word (codes "state") (plain_of text x)) (sym d) ∙ f in rw g refl
+  -- another word
+  pub other_word : (tokens : List Token) (first : Token) → 2 ≤ length tokens → first ≡ get_or tokens 0 first → is_word w (plain_of text first) ≡ false → state_by w p (map (plain_of text) tokens) ≡ None
+  unfolding state_by
+  other_word [] first h d f = absurd (omega arith)
+  other_word (a ∷ tokens) first h d f = let g : is_word w (plain_of text a) ≡ false = ap (λ x. is_word w (plain_of text x)) (sym d) ∙ f in rw g refl
 
--- the word, and then a location and a point
-pub after_word : (p : PlainPlant) (text : List ℕ) (tokens : List Token) (first name : Token) → 2 ≤ length tokens → first ≡ get_or tokens 0 first → name ≡ get_or tokens 1 name → is_word (codes "state") (plain_of text first) ≡ true
-    → state_line p (map (plain_of text) tokens) ≡ state_of p (plain_of text name ∷ map (plain_of text) (take (length tokens - 2) (drop 2 tokens)))
-unfolding state_line
-after_word p text [] first name h d e f = absurd (omega arith)
-after_word p text (a ∷ []) first name h d e f = absurd (omega arith)
-after_word p text (a ∷ b ∷ tokens) first name h d e f =
-    let g : is_word (codes "state") (plain_of text a) ≡ true = ap (λ x. is_word (codes "state") (plain_of text x)) (sym d) ∙ f in
-    rw g (ap (λ x. state_of p (plain_of text x ∷ map (plain_of text) tokens)) (sym e) ∙ ap (λ ts. state_of p (plain_of text name ∷ map (plain_of text) ts)) (sym (take_rest (a ∷ b ∷ tokens) 2)))
+  -- the word, and then a location and a point
+  pub after_word : (tokens : List Token) (first name : Token) → 2 ≤ length tokens → first ≡ get_or tokens 0 first → name ≡ get_or tokens 1 name → is_word w (plain_of text first) ≡ true
+      → state_by w p (map (plain_of text) tokens) ≡ state_of p (plain_of text name ∷ map (plain_of text) (take (length tokens - 2) (drop 2 tokens)))
+  unfolding state_by
+  after_word [] first name h d e f = absurd (omega arith)
+  after_word (a ∷ []) first name h d e f = absurd (omega arith)
+  after_word (a ∷ b ∷ tokens) first name h d e f =
+      let g : is_word w (plain_of text a) ≡ true = ap (λ x. is_word w (plain_of text x)) (sym d) ∙ f in
+      rw g (ap (λ x. state_of p (plain_of text x ∷ map (plain_of text) tokens)) (sym e) ∙ ap (λ ts. state_of p (plain_of text name ∷ map (plain_of text) ts)) (sym (take_rest (a ∷ b ∷ tokens) 2)))

@@ -15,7 +15,6 @@ pub mod Pair
 pub mod PlantLine
 pub mod PlantSteps
 pub mod PlantText
-pub mod PlantTextLaws
 pub mod PointText
 pub mod Reads
 pub mod ReadsLaws

@@ -2,13 +2,14 @@
 use Rattle.std.specs.Prelude.{ℕ, length, Bool, true, false, not, ◌&&◌, nat_lt, if◌then◌else◌, List, [], ◌∷◌, ◌++◌, map, Option, Some, None}
 use Rattle.std.specs.Option.{option_and_then, option_map}
 use Rattle.lhg_row.specs.Piece.{PlainPiece}
+use Rattle.lhg_lex.specs.LineTokens.{Spot}
 use Rattle.lhg_lex.specs.PlainToken.{PlainToken}
 use Rattle.lhg_plant.specs.Differ.{is_among}
 use Rattle.lhg_plant.specs.Limits.{most_safe_lines, most_locations, most_switches}
 use Rattle.lhg_plant.specs.Plant.{PlainLocation, PlainSwitch, PlainPlant}
 use Rattle.lhg_plant.specs.Still.{still_rows}
 use Rattle.lhg_read.specs.PlantLine.{inv, flow, safe, PlantLine, loc, block, switch, end, line_of}
-use Rattle.lhg_read.specs.PlantText.{switch_at}
+use Rattle.lhg_read.specs.PlantText.{said_in, switch_at}
 
 -- what is read so far: the locations, of which the last one is open; whether it has an `inv` and a `flow` line; the switches;
 -- and whether the text has ended
@@ -89,10 +90,12 @@ steps n d (line ∷ lines) = if d.ended then None else option_and_then (λ e. st
 abbrev pub taken : List (List ℕ) → PlainDraft → List PlainToken → Option PlainDraft
 taken vars d tokens = option_and_then (step (length vars) d) (line_of vars tokens)
 
--- what the tokens of lines change, one after the other
-abbrev pub all_taken : List (List ℕ) → PlainDraft → List (List PlainToken) → Option PlainDraft
-all_taken vars d [] = Some d
-all_taken vars d (line ∷ lines) = if d.ended then None else option_and_then (λ e. all_taken vars e lines) (taken vars d line)
+-- what a line changes, and whether the text has ended
+abbrev pub taken_at : List (List ℕ) → PlainDraft → List Spot → Option PlainDraft
+taken_at vars d line = taken vars d (said_in line)
+
+abbrev pub has_ended : PlainDraft → Bool
+has_ended d = d.ended
 
 -- the plant that is read
 abbrev pub plant_with : List (List ℕ) → PlainDraft → PlainPlant

@@ -37,5 +37,5 @@ pub use refusal::{Refusal, stop_at};
 pub use rest::finish;
 pub use rows::{read_rows, rows_from};
 pub use signs::is_word;
-pub use states::{read_state, state_from};
+pub use states::{read_state, state_by};
 pub use switches::place_in;

@@ -4,7 +4,7 @@ ghost use Rattle.lhg_lex.specs.TextTokens.{plain_of, IsSpan};
 ghost use Rattle.lhg_plant.specs.Views.{plain_plant, plain_state};
 ghost use Rattle.lhg_read.specs.Lexed.{IsLexed};
 ghost use Rattle.lhg_read.specs.Refusals.{IsRead};
-ghost use Rattle.lhg_read.specs.StateText.{state_of, state_line, IsStateText, IsSomeState};
+ghost use Rattle.lhg_read.specs.StateText.{state_of, state_by, IsStateText, IsSomeState};
 ghost use Rattle.lhg_read.specs.TokenText.{IsTextBy, ReadsText, HasCause};
 
 use crate::names::read_name;
@@ -17,8 +17,8 @@ use lhg_lex::{Lines, ReadStop, Token};
 use lhg_plant::{Plant, State};
 use std::alloc::Global;
 
-/// The state that the name of a location and the tokens of a point are.
-pub fn state_from(
+// The state that the name of a location and the tokens of a point are.
+fn state_from(
     alloc: Global,
     lines: &Lines,
     plant: &Plant,
@@ -43,21 +43,22 @@ pub fn state_from(
     })
 }
 
-// The state of the line `state LOCATION POINT`.
-fn read_line(
+/// The state of the line `WORD LOCATION POINT`.
+pub fn state_by(
     alloc: Global,
     lines: &Lines,
     plant: &Plant,
+    word: &[u8],
     tokens: &[Token],
 ) -> Result<State, Refusal>
     requires spans { All (IsSpan lines.now.bytes) tokens.now }
     requires words { All (λ token. IsLexed (plain_of lines.now.bytes token)) tokens.now }
-    ensures { IsRead result (state_line (plain_plant plant.now) (map (plain_of lines.now.bytes) tokens.now)) plain_state }
+    ensures { IsRead result (state_by word.now (plain_plant plant.now) (map (plain_of lines.now.bytes) tokens.now)) plain_state }
 {
     let [first, name, ..] = tokens else {
         return Err(Refusal::NotHere);
     };
-    if !is_word(lines, first, b"state") {
+    if !is_word(lines, first, word) {
         return Err(Refusal::NotHere);
     }
     state_from(alloc, lines, plant, name, &tokens[2..])
@@ -73,7 +74,7 @@ pub fn read_state(alloc: Global, lines: &mut Lines, plant: &Plant) -> Result<Sta
     ensures bytes { OnErr result (lines.new.bytes ≡ lines.old.bytes) }
 {
     let line = needed_line(alloc, lines)?;
-    match read_line(alloc, lines, plant, &line.tokens) {
+    match state_by(alloc, lines, plant, b"state", &line.tokens) {
         Ok(state) => Ok(state),
         Err(refusal) => Err(stop_at(refusal, line.number)),
     }

@@ -1,5 +1,5 @@
 -- What do the lines of a printed plant say?
-use Rattle.std.proofs.Common.{◌≡◌, ◌<◌, ◌≤◌, ℕ, List, [], ◌∷◌, ◌++◌, length, map, refl, ap, subst, true, false, Some, arith, append-nil, codes, nat_le}
+use Rattle.std.proofs.Common.{◌≡◌, ◌<◌, ◌≤◌, ℕ, List, [], ◌∷◌, ◌++◌, length, map, refl, ap, ◌∙◌, true, false, Some, arith, codes, nat_le}
 use Rattle.std.specs.Option.{option_map}
 use Rattle.std.specs.Str.{bytes_eq}
 use Rattle.std.proofs.lemmas.Bool.Decides.{nat_tests}
@@ -9,20 +9,18 @@ use Rattle.lhg_lex.specs.PlainToken.{PlainToken, word}
 use Rattle.lhg_lex.specs.Word.{is_word}
 use Rattle.lhg_row.specs.Constant.{varies}
 use Rattle.lhg_row.specs.Piece.{PlainPiece}
-use Rattle.lhg_row.specs.Width.{AllWide}
 use Rattle.lhg_plant.specs.Plant.{PlainLocation}
 use Rattle.lhg_plant.specs.Word.{IsName, IsVariable}
 use Rattle.lhg_plant.specs.declared.plants.Side.{Side}
 use Rattle.lhg_plant.specs.declared.plants.Side.TheVariants.{Ctl, Env, Pick}
-use Rattle.lhg_read.specs.Names.{name_of, is_taken, variable_names, vars_of}
+use Rattle.lhg_read.specs.Names.{is_taken, variable_names, vars_of}
 use Rattle.lhg_plant.specs.Differ.{all_differ}
-use Rattle.lhg_plant.specs.Limits.{most_name_bytes, most_variables}
+use Rattle.lhg_plant.specs.Limits.{most_variables}
 use Rattle.lhg_plant.specs.Printable.{HasVariables}
 use Rattle.lhg_plant.specs.Proper.{IsLine, IsLocation}
-use Rattle.lhg_read.specs.PlantLine.{inv, flow, safe, WrittenSwitch, PlantLine, loc, block, switch, end, side_of, switch_of, line_of}
+use Rattle.lhg_read.specs.PlantLine.{BlockLine, inv, flow, safe, WrittenSwitch, PlantLine, loc, block, switch, end, side_of, switch_of, line_of}
 use Rattle.lhg_read.specs.PlantText.{Block, block_lines}
 use Rattle.lhg_read.specs.Rows.{rows_of}
-use Rattle.lhg_read.specs.Term.{width}
 use Rattle.lhg_read.specs.declared.forms.Form.{Form}
 use Rattle.lhg_read.specs.declared.forms.Form.TheVariants.{Plain, Flow, Jump}
 use Rattle.lhg_row_text.specs.PrintedLine.{spaced}
@@ -31,7 +29,7 @@ use Rattle.lhg_row_text.specs.RowText.{rows_text, jump_names}
 use Rattle.lhg_row_text.specs.Short.{AllShort}
 use Rattle.lhg_text.specs.ShortPlant.{IsShortLocation}
 use Rattle.lhg_row_text.proofs.LineText.{Says}
-use Rattle.lhg_row_text.proofs.NamedRows.{IsWord, words_say, word_says, AreRows, AreNames, AreRead, rows_are_read, name_read}
+use Rattle.lhg_row_text.proofs.NamedRows.{words_say, word_says, AreRows, AreNames, AreRead, rows_are_read, name_read}
 
 -- ---- lines
 
@@ -52,32 +50,27 @@ loc_line vars name h = record {
 }
 
 module _ (vars : List (List ℕ)) (rows : PlainPiece) where
+  -- the line of rows behind a word, where it says such a line of a location
+  rows_line : (w : List ℕ) (line : PlainPiece → BlockLine) (form : Form) (tokens : List PlainToken) → is_word w ≡ true → line_of vars (word w ∷ tokens) ≡ option_map (λ s. block (line s)) (rows_of form vars tokens)
+      → Says (rows_text vars rows) tokens → rows_of form vars tokens ≡ Some rows → IsLineOf vars (spaced (w ∷ rows_text vars rows ∷ [])) (block (line rows))
+  rows_line w line form tokens h e says reads = record {
+    first = word w;
+    others = tokens;
+    says = words_say (w ∷ []) (rows_text vars rows) tokens (record { word = h }, tt) says;
+    reads = e ∙ ap (option_map (λ s. block (line s))) reads;
+  }
+
   inv_line : AreRead Plain vars rows → IsLineOf vars (spaced (codes "inv" ∷ rows_text vars rows ∷ [])) (block (inv rows))
   unfolding line_of
-  inv_line r = record {
-    first = word (codes "inv");
-    others = r.tokens;
-    says = words_say (codes "inv" ∷ []) (rows_text vars rows) r.tokens (record { word = refl }, tt) r.says;
-    reads = ap (option_map (λ s. block (inv s))) r.reads;
-  }
+  inv_line r = rows_line (codes "inv") (λ s. inv s) Plain r.tokens refl refl r.says r.reads
 
   flow_line : AreRead Flow vars rows → IsLineOf vars (spaced (codes "flow" ∷ rows_text vars rows ∷ [])) (block (flow rows))
   unfolding line_of
-  flow_line r = record {
-    first = word (codes "flow");
-    others = r.tokens;
-    says = words_say (codes "flow" ∷ []) (rows_text vars rows) r.tokens (record { word = refl }, tt) r.says;
-    reads = ap (option_map (λ s. block (flow s))) r.reads;
-  }
+  flow_line r = rows_line (codes "flow") (λ s. flow s) Flow r.tokens refl refl r.says r.reads
 
   safe_is : AreRead Plain vars rows → IsLineOf vars (safe_line vars rows) (block (safe rows))
   unfolding line_of
-  safe_is r = record {
-    first = word (codes "safe");
-    others = r.tokens;
-    says = words_say (codes "safe" ∷ []) (rows_text vars rows) r.tokens (record { word = refl }, tt) r.says;
-    reads = ap (option_map (λ s. block (safe s))) r.reads;
-  }
+  safe_is r = rows_line (codes "safe") (λ s. safe s) Plain r.tokens refl refl r.says r.reads
 
 -- the line of the end
 pub end_line : (vars : List (List ℕ)) → IsLineOf vars (codes "end") end

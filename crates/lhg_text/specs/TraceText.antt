@@ -1,6 +1,8 @@
 -- How is the trace of a run printed?
 use Rattle.std.specs.Prelude.{◌≡◌, ◌<◌, ℕ, List, [], ◌∷◌, ◌++◌, length, codes, decimal, map, slice_get, Option, Some, None}
 use Rattle.std.specs.List.{flat_map}
+use Rattle.lhg_math.specs.Number.{Number}
+use Rattle.lhg_row.specs.Row.{PlainPoint}
 use Rattle.lhg_plant.specs.Plant.{PlainPlant}
 use Rattle.lhg_plant.specs.State.{PlainState}
 use Rattle.lhg_plant.specs.Run.{PlainStep, started, flowed, switched, landed, env_switched}
@@ -8,13 +10,21 @@ use Rattle.lhg_row_text.specs.PointText.{point_text, state_text}
 use Rattle.lhg_row_text.specs.PrintedLine.{line, spaced, switch_name}
 use Rattle.lhg_row_text.specs.RowText.{number_text}
 
+-- `flow NUMBER POINT`
+abbrev pub flow_line : List (List ℕ) → Number → PlainPoint → List ℕ
+flow_line vars t y = spaced (codes "flow" ∷ number_text t ∷ point_text vars y ∷ [])
+
+-- `env SWITCH LOCATION POINT`
+abbrev pub env_line : PlainPlant → ℕ → PlainState → List ℕ
+env_line a e s = spaced (codes "env" ∷ switch_name (slice_get a.switches e) ∷ state_text a s ∷ [])
+
 -- the line of a step
 abbrev pub step_line : PlainPlant → PlainStep → List ℕ
 step_line a (started s) = spaced (codes "start" ∷ state_text a s ∷ [])
-step_line a (flowed t y) = spaced (codes "flow" ∷ number_text t ∷ point_text a.vars y ∷ [])
+step_line a (flowed t y) = flow_line a.vars t y
 step_line a (switched e) = spaced (codes "switch" ∷ switch_name (slice_get a.switches e) ∷ [])
 step_line a (landed s) = spaced (codes "land" ∷ state_text a s ∷ [])
-step_line a (env_switched e s) = spaced (codes "env" ∷ switch_name (slice_get a.switches e) ∷ state_text a s ∷ [])
+step_line a (env_switched e s) = env_line a e s
 
 -- the last line: the end, or the number of the illegal entry
 abbrev pub last_line : Option ℕ → List ℕ

@@ -7,24 +7,22 @@ ghost use Rattle.lhg_num.specs.Marked.{done};
 ghost use Rattle.lhg_plant.specs.Views.{plain_plant, plain_state};
 ghost use Rattle.lhg_play.specs.Views.{plain_move, plain_moves};
 ghost use Rattle.lhg_row_text.specs.PrintedLine.{line};
-ghost use Rattle.lhg_text.specs.EscapeText.{plain_exit, IsFittingMove, IsPlacedExit, move_line, exit_lines, exit_line, escape_text};
+ghost use Rattle.lhg_text.specs.EscapeText.{plain_exit, IsFittingMove, IsPlacedExit, move_line, exit_lines, escape_text};
+ghost use Rattle.lhg_text.specs.TraceText.{IsPlacedState, env_line};
 
-use crate::words::{push_whole, push_word};
+use crate::moves::{push_env, push_flow};
+use crate::words::push_whole;
 use lhg_num::Halt;
-use lhg_plant::{Name, Plant, State};
+use lhg_plant::{Plant, State};
 use lhg_play::{Escape, Move};
-use lhg_row_text::{push_number, push_point, push_state};
 use std::alloc::{AllocError, Global};
 
 // The line of a flow.
-fn push_move(text: &mut Vec<u8>, vars: &[Name], step: &Move) -> Result<(), AllocError>
-    requires { length step.now.to ≡ length vars.now }
-    ensures { OnOk result (text.new.items ≡ text.old.items ++ line (move_line vars.now (plain_move step.now))) }
+fn push_move(text: &mut Vec<u8>, plant: &Plant, step: &Move) -> Result<(), AllocError>
+    requires { length step.now.to ≡ length plant.now.vars.items }
+    ensures { OnOk result (text.new.items ≡ text.old.items ++ line (move_line plant.now.vars.items (plain_move step.now))) }
 {
-    text.extend_from_slice(b"flow ")?;
-    push_number(text, &step.time)?;
-    text.extend_from_slice(b" ")?;
-    push_point(text, vars, &step.to)?;
+    push_flow(text, plant, &step.time, &step.to)?;
     text.extend_from_slice(b"\n")
 }
 
@@ -34,7 +32,7 @@ fn push_moves(text: &mut Vec<u8>, plant: &Plant, moves: &[Move]) -> Result<(), A
     ensures { OnOk result (text.new.items ≡ text.old.items ++ flat_map line (map (move_line (plain_plant plant.now).vars) (plain_moves moves.now))) }
 {
     for i in 0..moves.len() {
-        push_move(text, &plant.vars, &moves[i])?;
+        push_move(text, plant, &moves[i])?;
     }
     Ok(())
 }
@@ -47,14 +45,10 @@ fn push_exit(
     target: &State,
 ) -> Result<(), AllocError>
     requires switch { switch < length plant.now.switches.items }
-    requires place { target.now.loc < length plant.now.locs.items }
-    requires lengths { length target.now.at ≡ length plant.now.vars.items }
-    ensures { OnOk result (text.new.items ≡ text.old.items ++ line (exit_line (plain_plant plant.now) switch (plain_state target.now))) }
+    requires target { IsPlacedState (plain_plant plant.now) (plain_state target.now) }
+    ensures { OnOk result (text.new.items ≡ text.old.items ++ line (env_line (plain_plant plant.now) switch (plain_state target.now))) }
 {
-    text.extend_from_slice(b"env")?;
-    push_word(text, plant.switches[switch as usize].name.bytes())?;
-    text.extend_from_slice(b" ")?;
-    push_state(text, plant, target)?;
+    push_env(text, plant, switch, target)?;
     text.extend_from_slice(b"\n")
 }
 

@@ -6,6 +6,7 @@ mod escape_tests;
 mod escapes;
 pub mod laws;
 mod losses;
+mod moves;
 mod plants;
 #[cfg(test)]
 mod report_tests;

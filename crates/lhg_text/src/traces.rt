@@ -1,56 +1,20 @@
 // Prints traces.
-ghost use Rattle.std.specs.Prelude.{◌≡◌, ◌<◌, ◌++◌, ◌∷◌, [], OnOk, length, map, slice_get, codes};
+ghost use Rattle.std.specs.Prelude.{◌≡◌, ◌++◌, OnOk, map};
 ghost use Rattle.std.specs.List.{flat_map};
 ghost use Rattle.lhg_math.specs.Tests.{AllOf};
 ghost use Rattle.lhg_num.specs.Halting.{IsHaltedByMemory};
 ghost use Rattle.lhg_num.specs.Marked.{done};
-ghost use Rattle.lhg_plant.specs.Views.{plain_plant, plain_state};
+ghost use Rattle.lhg_plant.specs.Views.{plain_plant};
 ghost use Rattle.lhg_play.specs.Views.{plain_step, plain_steps};
-ghost use Rattle.lhg_row_text.specs.PointText.{point_text, state_text};
-ghost use Rattle.lhg_row_text.specs.PrintedLine.{line, switch_name};
-ghost use Rattle.lhg_row_text.specs.RowText.{number_text};
-ghost use Rattle.lhg_text.specs.TraceText.{IsPlacedState, IsPlacedStep, step_line, last_line, trace_text};
+ghost use Rattle.lhg_row_text.specs.PrintedLine.{line};
+ghost use Rattle.lhg_text.specs.TraceText.{IsPlacedStep, step_line, last_line, trace_text};
 
-use crate::words::{push_whole, push_word};
-use lhg_num::{Frac, Halt};
-use lhg_plant::{Plant, State};
+use crate::moves::{push_env, push_flow, push_spaced_state, push_switch};
+use crate::words::push_whole;
+use lhg_num::Halt;
+use lhg_plant::Plant;
 use lhg_play::{Step, Trace};
-use lhg_row::Point;
-use lhg_row_text::{push_number, push_point, push_state};
 use std::alloc::{AllocError, Global};
-
-// A state behind a space.
-fn push_spaced_state(text: &mut Vec<u8>, plant: &Plant, state: &State) -> Result<(), AllocError>
-    requires { IsPlacedState (plain_plant plant.now) (plain_state state.now) }
-    ensures { OnOk result (text.new.items ≡ text.old.items ++ 32 ∷ state_text (plain_plant plant.now) (plain_state state.now)) }
-{
-    text.extend_from_slice(b" ")?;
-    push_state(text, plant, state)
-}
-
-// The name of a switch behind a space.
-fn push_switch(text: &mut Vec<u8>, plant: &Plant, number: u32) -> Result<(), AllocError>
-    requires { number < length plant.now.switches.items }
-    ensures { OnOk result (text.new.items ≡ text.old.items ++ 32 ∷ switch_name (slice_get (plain_plant plant.now).switches number)) }
-{
-    push_word(text, plant.switches[number as usize].name.bytes())
-}
-
-// A time and a point, each behind a space.
-fn push_flow(
-    text: &mut Vec<u8>,
-    plant: &Plant,
-    time: &Frac,
-    to: &Point<Frac>,
-) -> Result<(), AllocError>
-    requires { length to.now ≡ length plant.now.vars.items }
-    ensures { OnOk result (text.new.items ≡ text.old.items ++ 32 ∷ (number_text time.now ++ 32 ∷ point_text plant.now.vars.items to.now)) }
-{
-    text.extend_from_slice(b" ")?;
-    push_number(text, time)?;
-    text.extend_from_slice(b" ")?;
-    push_point(text, &plant.vars, to)
-}
 
 // What a step tells.
 fn push_step(text: &mut Vec<u8>, plant: &Plant, step: &Step) -> Result<(), AllocError>
@@ -62,10 +26,7 @@ fn push_step(text: &mut Vec<u8>, plant: &Plant, step: &Step) -> Result<(), Alloc
             text.extend_from_slice(b"start")?;
             push_spaced_state(text, plant, state)
         }
-        Step::Flow { time, to } => {
-            text.extend_from_slice(b"flow")?;
-            push_flow(text, plant, time, to)
-        }
+        Step::Flow { time, to } => push_flow(text, plant, time, to),
         Step::Switch { number } => {
             text.extend_from_slice(b"switch")?;
             push_switch(text, plant, *number)
@@ -74,11 +35,7 @@ fn push_step(text: &mut Vec<u8>, plant: &Plant, step: &Step) -> Result<(), Alloc
             text.extend_from_slice(b"land")?;
             push_spaced_state(text, plant, state)
         }
-        Step::Env { number, to } => {
-            text.extend_from_slice(b"env")?;
-            push_switch(text, plant, *number)?;
-            push_spaced_state(text, plant, to)
-        }
+        Step::Env { number, to } => push_env(text, plant, *number, to),
     }
 }
 

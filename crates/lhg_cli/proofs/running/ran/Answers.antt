@@ -20,7 +20,7 @@ use Rattle.lhg_cli.proofs.running.ran.Goals as goal
 pub run_written-requires-clause-start : goal.run_written-requires-clause-start
 run_written-requires-clause-start c =
     let i = c.in-Ok.input in
-    (log_start c.args.bytes.now (plain_plant i.plant) (plain_draft i.draft) (plain_log i.start i.entries.items) c.in-Ok.ensures.ok).1
+    (log_start c.args.bytes.now (plain_plant i.plant) (plain_draft i.draft) (plain_log i.start i.entries.items) c.in-Ok.ensures.ok).fits
 
 pub run_written-requires-clause-ends : goal.run_written-requires-clause-ends
 run_written-requires-clause-ends c =

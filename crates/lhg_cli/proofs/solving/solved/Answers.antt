@@ -12,7 +12,7 @@ use Rattle.lhg_loss.specs.declared.losses.Loss.{Loss}
 use Rattle.lhg_text.specs.ReportConditions.{IsPlacedLoss}
 use Rattle.lhg_text.specs.ReportLaws.{IsWrittenReport, SameReport}
 use Rattle.lhg_text.specs.ReportText.{report_text}
-use Rattle.lhg_cli.proofs.GuardSteps.{solution_guards}
+use Rattle.lhg_cli.proofs.GuardSteps.{env_unguarded}
 use Rattle.lhg_cli.proofs.Placed.{all_placed, all_over}
 use Rattle.lhg_cli.proofs.solving.solved.Goals as goal
 
@@ -26,7 +26,7 @@ report-requires-clause-controller c =
       switches = e.guards_many ∙ sym (length-map p.switches.items plain_switch);
       region = e.vars;
       guards = e.guards_vars;
-      ctl = solution_guards (plain_plant p) c.args.budget s.rounds (plain_region s.region.pieces.items) (plain_region s.guards.items) (plain_losses s.losses.items) e.solution;
+      ctl = env_unguarded (plain_plant p) c.args.budget s.rounds (plain_region s.region.pieces.items) (plain_region s.guards.items) (plain_losses s.losses.items) e.solution;
     }
 
 pub report-requires-clause-places : goal.report-requires-clause-places

@@ -1,5 +1,8 @@
-use Rattle.lhg_ctl.proofs.LogLawProofs.{log_laws}
+use Rattle.lhg_ctl.proofs.LogLawProofs.{log_reading, log_end}
 use Rattle.lhg_ctl.proofs.laws.law_logs.Goals as goal
 
-pub returns : goal.returns
-returns c = log_laws
+pub returns-clause-reading : goal.returns-clause-reading
+returns-clause-reading c = log_reading
+
+pub returns-clause-end : goal.returns-clause-end
+returns-clause-end c = log_end

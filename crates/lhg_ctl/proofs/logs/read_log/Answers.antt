@@ -10,8 +10,8 @@ returns-in_err-line-clause-err c =
     let p = err_from_is_err_and c.from_residual.result c.from_residual.ensures.1 in
     rw (p.1, p.2) (nothing (plain_plant c.args.plant.now) c.args.plant.now.proper c.args.lines.now c.in_err-line.field-0.0 c.in_err-line.ensures.stop)
 
-pub start_from-requires-clause-words : goal.start_from-requires-clause-words
-start_from-requires-clause-words c = lexed_after c.args.lines.now c.in_ok-line.line c.needed_line.new.lines c.in_ok-line.ensures.line c.in_ok-line.ensures.read c.deref.result.now c.deref.ensures.value
+pub state_by-requires-clause-words : goal.state_by-requires-clause-words
+state_by-requires-clause-words c = lexed_after c.args.lines.now c.in_ok-line.line c.needed_line.new.lines c.in_ok-line.ensures.line c.in_ok-line.ensures.read c.deref.result.now c.deref.ensures.value
 
 pub returns-in-Err-clause-err : goal.returns-in-Err-clause-err
 returns-in-Err-clause-err c =

@@ -1,15 +1,10 @@
-use Rattle.std.proofs.Common.{◌≡◌, ◌<◌, arith, ℕ, List, [], replicate, rules, length, map, subst, sym, ap, ◌∙◌}
-use Rattle.std.specs.Global.{Vec}
+use Rattle.std.proofs.Common.{◌≡◌, arith, ℕ, List, [], replicate, rules, length, map, ap, ◌∙◌}
 use Rattle.lhg_row.specs.Piece.{PlainPiece}
-use Rattle.lhg_row.specs.Row.{PlainRow}
-use Rattle.lhg_row.specs.Width.{AllWide}
 use Rattle.lhg_plant.specs.Views.{plain_plant}
 use Rattle.lhg_union.specs.Regions.{plain_region}
-use Rattle.lhg_row_text.proofs.Members.{all_map_at}
-use Rattle.lhg_ctl.specs.DraftStates.{IsPlaced}
 use Rattle.lhg_ctl.specs.Making.{line_made, all_made}
 use Rattle.lhg_ctl.specs.Views.{plain_placed}
-use Rattle.lhg_ctl.proofs.MakingSteps.{start_rest, start_count, over_empty, line_rest, line_is, end_rest}
+use Rattle.lhg_ctl.proofs.MakingSteps.{start_rest, start_count, over_empty, line_rest, line_is, place_below, rows_wide, end_rest}
 use Rattle.lhg_ctl.proofs.making.made_pieces.Goals as goal
 
 pub returns-clause-calculus : goal.returns-clause-calculus
@@ -19,23 +14,17 @@ returns-clause-calculus c =
 
 pub put_line-requires-clause-location : goal.put_line-requires-clause-location
 put_line-requires-clause-location c =
-    let n = length c.args.plant.now.vars.items in
-    let m = length c.args.plant.now.locs.items in
-    subst (λ (x : ℕ × Vec PlainRow). x.0 < m) c.index-pieces-i.is (all_map_at (IsPlaced n m) plain_placed c.args.pieces.now c.loop-i.i c.index-pieces-i.result c.requires c.loop-i-test.true c.index-pieces-i.is).place
+    place_below (length c.args.plant.now.vars.items) (length c.args.plant.now.locs.items) c.args.pieces.now c.loop-i.i c.index-pieces-i.result c.requires c.loop-i-test.true c.index-pieces-i.is
 
 pub put_line-requires-clause-place : goal.put_line-requires-clause-place
 put_line-requires-clause-place c =
-    let n = length c.args.plant.now.vars.items in
-    let m = length c.args.plant.now.locs.items in
-    let below = subst (λ (x : ℕ × Vec PlainRow). x.0 < m) c.index-pieces-i.is (all_map_at (IsPlaced n m) plain_placed c.args.pieces.now c.loop-i.i c.index-pieces-i.result c.requires c.loop-i-test.true c.index-pieces-i.is).place in
+    let below = place_below (length c.args.plant.now.vars.items) (length c.args.plant.now.locs.items) c.args.pieces.now c.loop-i.i c.index-pieces-i.result c.requires c.loop-i-test.true c.index-pieces-i.is in
     let count = c.loop-i.invariant.count in
     omega (arith, below, count)
 
 pub put_line-requires-clause-rows : goal.put_line-requires-clause-rows
 put_line-requires-clause-rows c =
-    let n = length c.args.plant.now.vars.items in
-    let m = length c.args.plant.now.locs.items in
-    subst (AllWide n) (sym (c.deref.ensures.value ∙ ap (λ (w : ℕ × Vec PlainRow). w.1.items) (sym c.index-pieces-i-in-loop-i.is))) (all_map_at (IsPlaced n m) plain_placed c.args.pieces.now c.loop-i.i c.index-pieces-i-in-loop-i.result c.requires c.loop-i-test.true c.index-pieces-i-in-loop-i.is).wide
+    rows_wide (length c.args.plant.now.vars.items) (length c.args.plant.now.locs.items) c.args.pieces.now c.loop-i.i c.index-pieces-i-in-loop-i.result c.requires c.loop-i-test.true c.index-pieces-i-in-loop-i.is c.deref.result.now c.deref.ensures.value
 
 pub loop-i-preserved : goal.loop-i-preserved
 loop-i-preserved c =
@@ -45,7 +34,7 @@ loop-i-preserved c =
     let whole = all_made a (λ x. x) (length c.args.plant.now.locs.items) (map plain_placed c.args.pieces.now) in
     record {
       rest = line_rest a (λ x. x) whole c.args.pieces.now c.loop-i.i x c.index-pieces-i.is c.loop-i-test.true lists c.loop-i.invariant.rest (plain_region c.put_line.new.lists.pieces.items)
-          (c.in_ok-put_line.ensures.calculus ∙ ap (λ p. (line_made a (λ x. x) lists p).value) (line_is c.args.pieces.now c.loop-i.i x c.index-pieces-i-in-loop-i.result c.deref.result.now c.loop-i-test.true c.index-pieces-i.is c.index-pieces-i-in-loop-i.is (c.deref.ensures.value ∙ ap (λ (w : ℕ × Vec PlainRow). w.1.items) (sym c.index-pieces-i-in-loop-i.is))));
+          (c.in_ok-put_line.ensures.calculus ∙ ap (λ p. (line_made a (λ x. x) lists p).value) (line_is c.args.pieces.now c.loop-i.i x c.index-pieces-i-in-loop-i.result c.deref.result.now c.loop-i-test.true c.index-pieces-i.is c.deref.ensures.value));
       vars = c.in_ok-put_line.ensures.vars;
       count = c.in_ok-put_line.ensures.count ∙ c.loop-i.invariant.count;
     }

@@ -1,5 +1,8 @@
-use Rattle.lhg_read.proofs.TextLawProofs.{text_laws}
+use Rattle.lhg_read.proofs.TextLawProofs.{plant_reading, state_reading}
 use Rattle.lhg_read.proofs.laws.law_texts.Goals as goal
 
-pub returns : goal.returns
-returns c = text_laws
+pub returns-clause-plants : goal.returns-clause-plants
+returns-clause-plants c = plant_reading
+
+pub returns-clause-states : goal.returns-clause-states
+returns-clause-states c = state_reading

@@ -11,8 +11,8 @@ returns-in_err-line-clause-err c =
     let plant = plain_plant c.args.plant.now in
     rw (p.1, p.2) (no_line plant (some_state plant c.args.plant.now.proper) c.args.lines.now c.in_err-line.field-0.0 c.in_err-line.ensures.stop)
 
-pub read_line-requires-clause-words : goal.read_line-requires-clause-words
-read_line-requires-clause-words c = lexed_after c.args.lines.now c.in_ok-line.line c.needed_line.new.lines c.in_ok-line.ensures.line c.in_ok-line.ensures.read c.deref.result.now c.deref.ensures.value
+pub state_by-requires-clause-words : goal.state_by-requires-clause-words
+state_by-requires-clause-words c = lexed_after c.args.lines.now c.in_ok-line.line c.needed_line.new.lines c.in_ok-line.ensures.line c.in_ok-line.ensures.read c.deref.result.now c.deref.ensures.value
 
 pub returns-in-Ok-clause-ok : goal.returns-in-Ok-clause-ok
 returns-in-Ok-clause-ok c =

@@ -5,14 +5,14 @@ use Rattle.std.proofs.lemmas.List.Elements.{All-drop}
 use Rattle.lhg_lex.specs.TextTokens.{IsSpan}
 use Rattle.lhg_plant.specs.Views.{plain_plant}
 use Rattle.lhg_read.proofs.StateSteps.{too_short, other_word, after_word}
-use Rattle.lhg_read.proofs.states.read_line.Goals as goal
+use Rattle.lhg_read.proofs.states.state_by.Goals as goal
 
 pub returns-in_default : goal.returns-in_default
-returns-in_default c = too_short (plain_plant c.args.plant.now) c.args.lines.now.bytes c.args.tokens.now c.in_default.len_below
+returns-in_default c = too_short c.args.word.now (plain_plant c.args.plant.now) c.args.lines.now.bytes c.args.tokens.now c.in_default.len_below
 
 pub returns-then-not-is_word : goal.returns-then-not-is_word
 returns-then-not-is_word c =
-    other_word (plain_plant c.args.plant.now) c.args.lines.now.bytes c.args.tokens.now c.first-item.result c.in-len2-up.len_at_least c.first-item.is
+    other_word c.args.word.now (plain_plant c.args.plant.now) c.args.lines.now.bytes c.args.tokens.now c.first-item.result c.in-len2-up.len_at_least c.first-item.is
     (sym c.is_word.ensures ∙ c.if-not-is_word.true)
 
 pub state_from-requires-clause-spans : goal.state_from-requires-clause-spans
@@ -22,5 +22,5 @@ state_from-requires-clause-spans c =
 
 pub returns : goal.returns
 returns c =
-    rw (after_word (plain_plant c.args.plant.now) c.args.lines.now.bytes c.args.tokens.now c.first-item.result c.name-item.result c.in-len2-up.len_at_least c.first-item.is c.name-item.is
+    rw (after_word c.args.word.now (plain_plant c.args.plant.now) c.args.lines.now.bytes c.args.tokens.now c.first-item.result c.name-item.result c.in-len2-up.len_at_least c.first-item.is c.name-item.is
     (sym c.is_word.ensures ∙ c.if-not-is_word.false)) c.state_from.ensures
