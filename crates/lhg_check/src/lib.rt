@@ -5,7 +5,6 @@ mod checking;
 mod escaping;
 mod firsts;
 mod guarding;
-mod invariants;
 pub mod laws;
 mod near;
 mod safety;
