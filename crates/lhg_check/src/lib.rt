@@ -8,7 +8,6 @@ mod guarding;
 pub mod laws;
 mod near;
 mod safety;
-mod telling;
 #[cfg(test)]
 mod tests;
 mod verdicts;
