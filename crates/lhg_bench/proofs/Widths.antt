@@ -1,13 +1,8 @@
--- How wide are rows that were put at the end of a list?
-use Rattle.std.proofs.Common.{ℕ, Result, Ok, Err, sym, subst}
-use Rattle.std.specs.Prelude.{OnOk}
-use Rattle.lhg_num.specs.Marked.{done}
-use Rattle.lhg_num.specs.Halting.{IsHaltedByMemory}
-use Rattle.lhg_num.specs.declared.refusals.Halt.{Halt}
+-- How wide are the rows of a piece?
+use Rattle.std.proofs.Common.{◌≡◌, ℕ, sym, subst}
 use Rattle.lhg_row.specs.Piece.{PlainPiece}
 use Rattle.lhg_row.specs.Width.{AllWide}
 
--- the rows that a call gives are as wide as those that it is said to give
-pub wide_given : {T : Type 0} (r : Result T Halt) (n : ℕ) (said given : PlainPiece) → IsHaltedByMemory r (done said) (λ _. given) → AllWide n said → OnOk r (AllWide n given)
-wide_given (Ok x) n said given h w = subst (AllWide n) (sym h) w
-wide_given (Err e) n said given h w = tt
+-- as wide as rows that are the same
+pub wide_as : (n width : ℕ) (rows lines : PlainPiece) → width ≡ n → rows ≡ lines → AllWide width lines → AllWide n rows
+wide_as n width rows lines e same h = subst (AllWide n) (sym same) (subst (λ k. AllWide k lines) e h)

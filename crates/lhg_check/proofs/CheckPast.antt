@@ -1,7 +1,5 @@
 -- The pieces of the third part are the states of the region with an escape past the guards.
-use Rattle.std.proofs.Common.{◌≡◌, ◌↔◌, ℕ, zero, suc, Bool, true, cond, false, List, [], ◌∷◌, ◌++◌, length, get_or, slice_get, nat_eq, IsSomeAnd, Option, Some, None, refl, sym, ap, ◌∙◌, inl, inr, subst, append-nil}
-use Rattle.std.proofs.lemmas.Bool.{eq-eqb, eqb-true}
-use Rattle.lhg_math.specs.Tests.{by_bool}
+use Rattle.std.proofs.Common.{◌≡◌, ◌↔◌, ℕ, false, List, [], ◌∷◌, ◌++◌, length, get_or, slice_get, IsSomeAnd, Option, Some, None, refl, sym, ap, ◌∙◌, inl, subst, append-nil}
 use Rattle.lhg_num.specs.FracArithmetic.{frac_arithmetic, frac_is_lawful}
 use Rattle.lhg_num.specs.Marked.{valued}
 use Rattle.lhg_num.specs.MarkedLaws.{IsPart, and_then-rest, part_part}
@@ -12,19 +10,19 @@ use Rattle.lhg_row.specs.Members.{all-append}
 use Rattle.lhg_row.specs.Sample.{sample}
 use Rattle.lhg_row.specs.SampleLaws.{sample-in}
 use Rattle.lhg_row.specs.CoveredLaws.{polys-over, minus-polys}
-use Rattle.lhg_row.specs.SomeLists.{in_left, in_right, in_either}
 use Rattle.lhg_motion.specs.Found.{pieces_of}
 use Rattle.lhg_motion.specs.ReachCalculus.{reach}
-use Rattle.lhg_plant.specs.Plant.{PlainLocation, PlainSwitch, PlainPlant}
+use Rattle.lhg_plant.specs.Plant.{PlainLocation, PlainPlant}
 use Rattle.lhg_plant.specs.Proper.{IsProper, IsLocation}
 use Rattle.lhg_plant.specs.State.{PlainState}
-use Rattle.lhg_plant.specs.Region.{PlainGuards, InRegion, InSomeGuard}
+use Rattle.lhg_plant.specs.Region.{InRegion, InSomeGuard}
 use Rattle.lhg_plant.specs.Controller.{PlainController}
 use Rattle.lhg_plant.specs.Invariants.{pieces_at}
 use Rattle.lhg_plant.specs.OutCalculus.{PlainHit, hit_pieces, out}
 use Rattle.lhg_plant.specs.BackCalculus.{joined_at, near_at}
 use Rattle.lhg_plant.specs.SwitchFacts.{state_at, IsOutOf, AreHits}
 use Rattle.lhg_plant.proofs.InsideStates.{some_inside}
+use Rattle.lhg_plant.proofs.JoinedLists.{joined-in, joined-polys}
 use Rattle.lhg_plant.proofs.OutStates.{out-states}
 use Rattle.lhg_plant.proofs.PreStates.{all_there}
 use Rattle.lhg_loss.proofs.Parts.{reach_is_exact}
@@ -36,42 +34,6 @@ use Rattle.lhg_check.proofs.Marks.{part_unmarked}
 use Rattle.lhg_check.proofs.CheckGuards.{region_over}
 use Rattle.lhg_check.proofs.PastSplit.{hit_escapes, gone_is}
 use Rattle.lhg_check.proofs.CheckLists.{IsListOf, at_or, first_sample, none_in, each_numbered, each_part}
-
--- ---- joined lists
--- the point is in the list of some switch that leaves the location
-record InListOf (l : ℕ) (ws : List PlainSwitch) (kss : PlainGuards) (p : PlainPoint) : Type 0 where
-  number : ℕ
-  leaves : IsSomeAnd (slice_get ws number) (λ w. w.from ≡ l)
-  some : InSome (get_or kss number []) p
-
-into_joined : (l : ℕ) (w : PlainSwitch) (ws : List PlainSwitch) (ks : List PlainPiece) (kss : PlainGuards) (p : PlainPoint) → (InListOf l ws kss p → InSome (joined_at l ws kss) p)
-    → (e : ℕ) → IsSomeAnd (slice_get (w ∷ ws) e) (λ w. w.from ≡ l) → InSome (get_or (ks ∷ kss) e []) p → InSome (joined_at l (w ∷ ws) (ks ∷ kss)) p
-into_joined l w ws ks kss p rest zero leaves some = in_left (cond (nat_eq w.from l) ks []) (joined_at l ws kss) p (subst (λ b. InSome (cond b ks []) p) (sym (eq-eqb w.from l leaves)) some)
-into_joined l w ws ks kss p rest (suc e) leaves some = in_right (cond (nat_eq w.from l) ks []) (joined_at l ws kss) p (rest (record { number = e; leaves = leaves; some = some }))
-
-joined_in : (l : ℕ) (ws : List PlainSwitch) (kss : PlainGuards) (p : PlainPoint) → InSome (joined_at l ws kss) p ↔ InListOf l ws kss p
-joined_in l [] kss p = (λ h. absurd h, λ h. absurd h.leaves)
-joined_in l (w ∷ ws) [] p = (λ h. absurd h, λ h. absurd h.some)
-joined_in l (w ∷ ws) (ks ∷ kss) p = (
-  λ h. elim (in_either (cond (nat_eq w.from l) ks []) (joined_at l ws kss) p h) [
-    | inl k ↦ by_bool (nat_eq w.from l)
-        (λ t. record { number = 0; leaves = eqb-true w.from l t; some = subst (λ b. InSome (cond b ks []) p) t k })
-        (λ f. absurd (subst (λ b. InSome (cond b ks []) p) f k))
-    | inr k ↦ let r = (joined_in l ws kss p).0 k in record { number = suc r.number; leaves = r.leaves; some = r.some }
-  ],
-  λ h. into_joined l w ws ks kss p (λ r. (joined_in l ws kss p).1 r) h.number h.leaves h.some,
-)
-
-chosen_polys : (n : ℕ) (b : Bool) (ks : List PlainPiece) → AllPolys frac_arithmetic n ks → AllPolys frac_arithmetic n (cond b ks [])
-chosen_polys n true ks h = h
-chosen_polys n false ks h = tt
-
--- the joined lists of pieces are pieces
-joined_polys : (n l : ℕ) (ws : List PlainSwitch) (kss : PlainGuards) → ((e : ℕ) → AllPolys frac_arithmetic n (get_or kss e [])) → AllPolys frac_arithmetic n (joined_at l ws kss)
-joined_polys n l [] kss h = tt
-joined_polys n l (w ∷ ws) [] h = tt
-joined_polys n l (w ∷ ws) (ks ∷ kss) h =
-    all-append (IsPoly frac_arithmetic n) (cond (nat_eq w.from l) ks []) (joined_at l ws kss) (chosen_polys n (nat_eq w.from l) ks (h 0)) (joined_polys n l ws kss (λ e. h (suc e)))
 
 -- the sample of the piece of the first hit is a state with an escape
 hit_sample : (a : PlainPlant) (c : PlainController) (l : ℕ) (hit : PlainHit) (hits : List PlainHit) → AreHits a (InRegion a c.region) l (hit ∷ hits) → BreaksClosed a c (state_at l (sample (length a.vars) hit.piece).value)
@@ -114,7 +76,7 @@ module _ (a : PlainPlant) (proper : IsProper a) (c : PlainController) (given : I
     here_polys = polys_at n c.region l given.region_is.polys
 
     joined_over : AllOver n joined
-    joined_over = polys-over frac_arithmetic n joined (joined_polys n l a.switches c.guards given.guard_polys)
+    joined_over = polys-over frac_arithmetic n joined (joined-polys n l a.switches c.guards given.guard_polys)
 
     hits_are_polys : AllPolys frac_arithmetic n (hit_pieces hits)
     hits_are_polys = hits_polys a S l hits (outs-are.hits l).sound
@@ -128,8 +90,8 @@ module _ (a : PlainPlant) (proper : IsProper a) (c : PlainController) (given : I
     unfolding near_at
     near_is p e =
         let d = less_is n here joined (polys-over frac_arithmetic n here here_polys) joined_over p e in (
-          λ h. let k = d.0 h in (record { state = some_inside a l here p e (given.region_is.inside l) k.0; some = k.0 }, λ g. k.1 ((joined_in l a.switches c.guards p).1 (record { number = g.0; leaves = g.1.leaves; some = g.1.some }))),
-          λ h. d.1 (h.0.some, λ k. let r = (joined_in l a.switches c.guards p).0 k in h.1 (r.number, record { state = h.0.state; leaves = r.leaves; some = r.some })),
+          λ h. let k = d.0 h in (record { state = some_inside a l here p e (given.region_is.inside l) k.0; some = k.0 }, λ g. k.1 ((joined-in l a.switches c.guards p).1 (record { number = g.0; leaves = g.1.leaves; some = g.1.some }))),
+          λ h. d.1 (h.0.some, λ k. let r = (joined-in l a.switches c.guards p).0 k in h.1 (r.number, record { state = h.0.state; leaves = r.leaves; some = r.some })),
         )
 
     -- what is lost there

@@ -1,14 +1,10 @@
 -- Steps of the third part in one location.
-use Rattle.std.proofs.Common.{◌≡◌, ◌<◌, ℕ, List, [], ◌∷◌, ◌++◌, length, map, get_or, slice_get, Option, Some, None, refl, sym, ap, ◌∙◌, subst, append-nil}
-use Rattle.std.specs.Global.{Vec}
-use Rattle.std.proofs.lemmas.List.{get_or-map}
-use Rattle.lhg_math.specs.Tests.{AllOf}
+use Rattle.std.proofs.Common.{◌≡◌, ℕ, List, [], ◌∷◌, ◌++◌, length, get_or, slice_get, Some, None, refl, sym, ap, subst, append-nil}
 use Rattle.lhg_num.specs.FracArithmetic.{frac_arithmetic}
 use Rattle.lhg_num.specs.Marked.{Marked, done, valued, IsRest}
 use Rattle.lhg_num.specs.MarkedLaws.{IsPart, and_then-part, and_then-rest}
 use Rattle.lhg_row.specs.Piece.{PlainPiece}
-use Rattle.lhg_row.specs.PieceFacts.{IsPoly, AllPolys}
-use Rattle.lhg_motion.specs.Found.{PlainFound, pieces_of}
+use Rattle.lhg_motion.specs.Found.{pieces_of}
 use Rattle.lhg_motion.specs.ReachCalculus.{reach}
 use Rattle.lhg_plant.specs.Plant.{PlainPlant, PlainLocation}
 use Rattle.lhg_plant.specs.Controller.{PlainController}
@@ -16,16 +12,11 @@ use Rattle.lhg_plant.specs.Invariants.{pieces_at}
 use Rattle.lhg_plant.specs.OutCalculus.{PlainHit, PlainOuts, hit_pieces}
 use Rattle.lhg_plant.specs.BackCalculus.{near_at}
 use Rattle.lhg_jump.specs.declared.hits.Hit.{Hit}
-use Rattle.lhg_jump.specs.HitViews.{plain_hits}
 use Rattle.lhg_check.specs.Check.{first_of, followed, found_from, lost_at}
 use Rattle.lhg_check.proofs.CheckLists.{followed-first, followed-rest}
 use Rattle.lhg_check.proofs.FirstSteps.{valued_rest}
 
 -- ---- what the code holds
--- the hits of a location are those of the list at its place
-pub hits-at : (xs : List (Vec Hit)) (l : ℕ) (v : Vec Hit) → v ≡ get_or xs l v → l < length xs → plain_hits v.items ≡ get_or (map (λ (hs : Vec Hit). plain_hits hs.items) xs) l []
-hits-at xs l v e h = ap (λ (w : Vec Hit). plain_hits w.items) e ∙ sym (get_or-map (λ (hs : Vec Hit). plain_hits hs.items) xs l v [] h)
-
 -- a list begins with its first member
 pub hits-begin : (hs : List Hit) (h : Hit) → Some h ≡ slice_get hs 0 → (rest : List Hit) × (hs ≡ h ∷ rest)
 hits-begin [] h e = absurd (some_none e)
@@ -44,15 +35,6 @@ hits-none (x ∷ hs) e = absurd (none_some e)
   where
     none_some : None ≡ Some x → ⊥
     none_some e = cc
-
--- the pieces of found pieces
-pub found-polys : (n : ℕ) (fs : List PlainFound) → AllOf (λ f. IsPoly frac_arithmetic n f.piece) fs → AllPolys frac_arithmetic n (pieces_of fs)
-found-polys n [] h = tt
-found-polys n (f ∷ fs) h = (h.0, found-polys n fs h.1)
-
--- what is there is one thing
-pub same-there : {A : Type 0} (o : Option A) (x y : A) → o ≡ Some x → o ≡ Some y → x ≡ y
-same-there o x y h k = cc
 
 -- ---- one location
 module _ (a : PlainPlant) (c : PlainController) (outs : PlainOuts) (l : ℕ) (place : PlainLocation) where

@@ -14,10 +14,9 @@ use Rattle.lhg_plant.specs.Region.{PlainRegion, InRegion}
 use Rattle.lhg_plant.specs.Split.{AreSplit}
 use Rattle.lhg_plant.specs.OutCalculus.{PlainHit, hit_pieces}
 use Rattle.lhg_plant.specs.SwitchFacts.{state_at, IsAway, AreHits}
-use Rattle.lhg_plant.proofs.Decided.{region_decided}
 use Rattle.lhg_plant.proofs.Reached.{escape_play, play_escape, out_state}
 use Rattle.lhg_loss.specs.RoundFacts.{AreReached}
-use Rattle.lhg_loss.proofs.PlaceSplit.{hit_leaves}
+use Rattle.lhg_loss.proofs.PlaceSplit.{hit_leaves, split_by}
 
 -- each found piece lies in the near pieces
 named_near : (n : ℕ) (near ways known : List PlainPiece) (flow : PlainPiece) (fs : List PlainFound) → EachNamed n near ways known flow fs → (p : PlainPoint) → length p ≡ n → InSome (pieces_of fs) p → InSome near p
@@ -48,31 +47,9 @@ module _ (a : PlainPlant) (region : PlainRegion) (K : States) (l : ℕ) (place :
   abbrev bad : List PlainPiece
   bad = away ++ hit_pieces hits
 
-  -- the bad pieces hold what is in Out
-  bad_out : (p : PlainPoint) → length p ≡ n → InSome bad p → Out a S (state_at l p)
-  bad_out p e h =
-      elim (in_either away (hit_pieces hits) p h) [
-        | inl k ↦ inl ((away_is.exact p e).0 k)
-        | inr k ↦ inr (hit_leaves a S l hits hits_are.sound p e k).1
-      ]
-
-  out_bad : (p : PlainPoint) → Out a S (state_at l p) → InSome bad p
-  out_bad p (inl o) = in_left away (hit_pieces hits) p ((away_is.exact p o.0.fits).1 o)
-  out_bad p (inr o) =
-      elim (region_decided a region (state_at l p)) [
-        | inl k ↦ in_right away (hit_pieces hits) p (hits_are.all p k o)
-        | inr k ↦ in_left away (hit_pieces hits) p ((away_is.exact p o.legal.start.fits).1 (o.legal.start, k))
-      ]
-
-  -- so an escape may pass the bad and near pieces
+  -- an escape may pass the bad and near pieces
   split : (q : PlainPoint) → AreSplit a S K (state_at l q) place bad near
-  split q = record {
-    is_there = there;
-    bad_in = bad_out;
-    bad_all = out_bad;
-    near_in = λ p e h. (let k = (near_is p e).0 h in (k.0.state, k.1));
-    near_all = λ p i o b. elim (region_decided a region (state_at l p)) [ inl k ↦ (near_is p i.fits).1 (k, b) | inr k ↦ absurd (o (inl (i, k))) ];
-  }
+  split q = split_by a region l away hits away_is hits_are K place there near near_is q
 
   module _ (found : List PlainFound) (reached : AreReached n bad near place.flow found) where
     abbrev gone : List PlainPiece

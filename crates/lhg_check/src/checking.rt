@@ -13,12 +13,12 @@ use crate::escaping::first_lost;
 use crate::firsts::sample_in;
 use crate::guarding::first_broken;
 use crate::safety::first_unsafe;
-use crate::telling::tell_lists;
 use crate::verdicts::Verdict;
 use lhg_ctl::Controller;
 use lhg_jump::out;
 use lhg_num::Halt;
 use lhg_plant::Plant;
+use lhg_union::tell_lists;
 use std::alloc::Global;
 
 /// Whether the controller, whose pieces and guard pieces lie inside the invariants of their locations, is valid; else the first part of

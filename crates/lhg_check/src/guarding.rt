@@ -12,9 +12,8 @@ ghost use Rattle.lhg_check.specs.Check as calculus;
 ghost use Rattle.lhg_check.specs.Views.{plain_piece, plain_first, IsFirstAmong, IsChecked};
 
 use crate::firsts::{First, first_left, first_of};
-use crate::invariants::invariants;
 use lhg_ctl::Controller;
-use lhg_jump::pre;
+use lhg_jump::{invariants, pre};
 use lhg_num::{Frac, Halt};
 use lhg_plant::{Plant, Side, Switch};
 use lhg_poly::Poly;

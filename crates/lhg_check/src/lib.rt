@@ -5,11 +5,9 @@ mod checking;
 mod escaping;
 mod firsts;
 mod guarding;
-mod invariants;
 pub mod laws;
 mod near;
 mod safety;
-mod telling;
 #[cfg(test)]
 mod tests;
 mod verdicts;

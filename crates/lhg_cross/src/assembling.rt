@@ -12,7 +12,8 @@ use std::alloc::Global;
 
 /// The rows, over x, y and t, of a straight flow from x to y in the time t: `from` at x, `into` at y, the relaxed rows of `through` at x and at y, `through` at the
 /// middle, the flow rows at (y - x) / t, and -t < 0. All pieces and the flow rows are over n variables.
-pub(crate) fn cross_rows<N: Scalar>(
+/// It halts for `Wide` only where the type refuses an operation of the calculus of this call, never for `Rows` and `Pieces`, and for `Memory`.
+pub fn cross_rows<N: Scalar>(
     alloc: Global,
     n: usize,
     from: &[Row<N>],

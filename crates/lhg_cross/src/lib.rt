@@ -11,5 +11,6 @@ mod tallies;
 #[cfg(test)]
 mod tests;
 
+pub use assembling::cross_rows;
 pub use crossing::cross;
 pub use tallies::Tally;

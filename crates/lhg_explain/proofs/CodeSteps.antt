@@ -1,5 +1,5 @@
 -- What is known of values that the code holds.
-use Rattle.std.proofs.Common.{◌≡◌, ◌<◌, ◌≤◌, ◌-◌, ℕ, zero, suc, cond, List, [], ◌∷◌, ◌++◌, map, take, length, get_or, slice_get, Some, refl, ap, ◌∙◌, subst, arith}
+use Rattle.std.proofs.Common.{◌≡◌, ◌<◌, ◌≤◌, ◌-◌, ℕ, zero, suc, cond, List, [], ◌∷◌, take, length, get_or, slice_get, Some, ap, ◌∙◌, subst, arith}
 use Rattle.lhg_math.specs.Number.{Number, lt, nought, neg}
 use Rattle.lhg_math.specs.Signs.{size_of, is_nought}
 use Rattle.lhg_math.specs.SignLaws.{is_nought-neg}
@@ -24,17 +24,6 @@ pub all_taken : {A : Type 0} (P : A → Type 0) (xs : List A) (i : ℕ) (x : A) 
 all_taken P [] i x h l e p = absurd (omega arith)
 all_taken P (y ∷ xs) zero x h l e p = (subst P e p, tt)
 all_taken P (y ∷ xs) (suc i) x h l e p = (h.0, all_taken P xs i x h.1 (omega arith) e p)
-
--- the image of an image
-pub map_twice : {A B C : Type 0} (g : B → C) (f : A → B) (xs : List A) → map g (map f xs) ≡ map (λ x. g (f x)) xs
-map_twice g f [] = refl
-map_twice g f (x ∷ xs) = ap (λ ys. g (f x) ∷ ys) (map_twice g f xs)
-
--- a list that grows seven times from nothing
-pub grown_seven : {A : Type 0} (w0 w1 w2 w3 w4 w5 w6 w7 a b c d e f g : List A) → w0 ≡ [] → w1 ≡ w0 ++ a → w2 ≡ w1 ++ b → w3 ≡ w2 ++ c → w4 ≡ w3 ++ d → w5 ≡ w4 ++ e → w6 ≡ w5 ++ f → w7 ≡ w6 ++ g
-    → w7 ≡ a ++ b ++ c ++ d ++ e ++ f ++ g
-grown_seven w0 w1 w2 w3 w4 w5 w6 w7 a b c d e f g h0 h1 h2 h3 h4 h5 h6 h7 =
-    h7 ∙ ap (λ w. w ++ g) (h6 ∙ ap (λ w. w ++ f) (h5 ∙ ap (λ w. w ++ e) (h4 ∙ ap (λ w. w ++ d) (h3 ∙ ap (λ w. w ++ c) (h2 ∙ ap (λ w. w ++ b) (h1 ∙ ap (λ w. w ++ a) h0))))))
 
 -- rows over many variables have at least as many coefficients
 pub wide_long : (m k : ℕ) (rows : PlainPiece) → m ≤ k → AllWide k rows → AllOf (λ r. m ≤ length r.coefs) rows

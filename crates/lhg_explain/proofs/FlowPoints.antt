@@ -54,4 +54,4 @@ module _ (n : ℕ) (start through into flow : PlainPiece) (ws : AllWide n start)
       let parts : yt ≡ y ++ t ∷ [] = last_split n yt (p.wide ∙ omega arith) in
       let ly : length y ≡ n = length-take-le n yt (let w = p.wide in omega arith) in
       let at : x ++ yt ≡ x ++ y ++ t ∷ [] = ap (λ w. x ++ w) parts ∙ sym (append_assoc x y (t ∷ [])) in
-      rows_crossing frac_arithmetic n start through into flow wt wi wf x y t lx ly (subst (λ (w : PlainPoint). InPiece rows w) at (put_in-from frac_arithmetic x rows yt p.inside))
+      rows_crossing frac_arithmetic n start through into flow ws wt wi wf x y t lx ly (subst (λ (w : PlainPoint). InPiece rows w) at (put_in-from frac_arithmetic x rows yt p.inside))

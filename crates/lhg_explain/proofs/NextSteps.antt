@@ -2,25 +2,29 @@
 use Rattle.std.proofs.Common.{◌≡◌, ◌-◌, ◌<◌, ◌≤◌, ℕ, zero, suc, List, [], ◌∷◌, length, get_or, slice_get, Some, IsSomeAnd, sym, ap, ◌∙◌, subst, arith}
 use Rattle.std.proofs.lemmas.List.{length-map}
 use Rattle.std.proofs.lemmas.Option.{get_or_from_slice_get}
+use Rattle.lhg_num.specs.Marked.{Marked}
+use Rattle.lhg_num.specs.MarkedLaws.{IsPart}
 use Rattle.lhg_row.specs.Row.{PlainPoint}
 use Rattle.lhg_row.specs.Piece.{PlainPiece}
 use Rattle.lhg_row.specs.System.{PlainSystem}
 use Rattle.lhg_row.specs.Width.{AllWide}
 use Rattle.lhg_motion.specs.Crossing.{HasCrossing}
 use Rattle.lhg_union.proofs.ListFacts.{all_at}
+use Rattle.lhg_plant.specs.declared.plants.Plant.{Plant}
 use Rattle.lhg_plant.specs.Plant.{PlainPlant, PlainSwitch}
 use Rattle.lhg_plant.specs.Proper.{IsProper}
 use Rattle.lhg_plant.specs.State.{PlainState, States}
 use Rattle.lhg_plant.specs.Round.{InRound}
 use Rattle.lhg_plant.specs.Loss.{PlainCause, by_env, by_leave, by_flow, PlainLoss, InLoss}
 use Rattle.lhg_plant.specs.Sound.{Shows, ShowsEnv, ShowsLeave, ShowsFlow, IsSoundBetween}
+use Rattle.lhg_plant.specs.Views.{plain_location, plain_switch, plain_plant}
 use Rattle.lhg_plant.proofs.LegalSteps.{image_at}
 use Rattle.lhg_plant.proofs.Options.{there_some}
 use Rattle.lhg_loss.specs.declared.losses.Cause.{Cause}
 use Rattle.lhg_loss.specs.declared.losses.Cause.TheVariants.{Env, Leave, Flow}
 use Rattle.lhg_loss.specs.declared.losses.Loss.{Loss}
-use Rattle.lhg_loss.specs.Views.{plain_loss, plain_losses, CauseVars, LossVars, AllHaveVars}
-use Rattle.lhg_explain.specs.Explanation.{no_loss, loss_at, flow_rows, next_by}
+use Rattle.lhg_loss.specs.Views.{plain_cause, plain_loss, plain_losses, CauseVars, LossVars, AllHaveVars}
+use Rattle.lhg_explain.specs.Explanation.{PlainNext, no_loss, loss_at, flow_rows, next_by}
 use Rattle.lhg_explain.specs.Explained.{IsWideCause, IsWideLoss, AreRecords, IsHeldBy, state_in}
 use Rattle.lhg_explain.specs.Results.{HasResult, HasResultBy}
 use Rattle.lhg_explain.proofs.HeldRecords.{IsRecordAt, record_at, wide_at, earlier_at, earlier-flow}
@@ -157,3 +161,54 @@ leave_vars n loss through into is h = subst (λ (c : Cause). CauseVars n c) is h
 
 pub flow_vars : (n : ℕ) (loss : Loss) (m : ℕ) (through : PlainSystem) → loss.cause ≡ Flow m through → LossVars n loss → through.width ≡ n
 flow_vars n loss m through is h = subst (λ (c : Cause). CauseVars n c) is h.1
+
+-- ---- what the code knows of the record that it holds
+module _ (p : Plant) {losses : List Loss} {m : ℕ} {x : PlainPoint} {loss : Loss} (f : IsStepFrom (plain_plant p) losses m x loss) where
+  -- its location is there
+  pub step_loc : loss.loc < length p.locs.items
+  step_loc =
+      let less = loc_there (plain_plant p) p.proper (plain_losses losses) (plain_loss loss) x f.taken_from in
+      let size = length-map p.locs.items plain_location in
+      omega (arith, less, size)
+
+  -- its pieces are over the plant's variables
+  pub step_vars : AllHaveVars (length p.vars.items) losses → loss ≡ get_or losses (m - 1) loss → LossVars (length p.vars.items) loss
+  step_vars h is = vars_at (length p.vars.items) m losses loss h is f.below
+
+  -- its step is that of its cause
+  module _ (c : PlainCause) (is : (plain_loss loss).cause ≡ c) where
+    pub step_part : {B : Type 0} (part : Marked B) → IsPart (next_by (plain_plant p) (plain_losses losses) (plain_loss loss) x c) part
+        → IsPart (next_by (plain_plant p) (plain_losses losses) (loss_at (plain_losses losses) m) x (loss_at (plain_losses losses) m).cause) part
+    step_part part h = subst (λ w. IsPart w part) (sym (next_is (plain_plant p) (plain_losses losses) m (plain_loss loss) x c f.same is)) h
+
+    pub step_value : (next_by (plain_plant p) (plain_losses losses) (plain_loss loss) x c).value ≡ (next_by (plain_plant p) (plain_losses losses) (loss_at (plain_losses losses) m) x (loss_at (plain_losses losses) m).cause).value
+    step_value = sym (ap (λ (w : Marked PlainNext). w.value) (next_is (plain_plant p) (plain_losses losses) m (plain_loss loss) x c f.same is))
+
+  -- where a switch leads out
+  module _ (e : ℕ) (into : PlainSystem) (is : loss.cause ≡ Env e into) where
+    pub step_switch : e < length p.switches.items
+    step_switch =
+        let less = switch_there (plain_plant p) p.proper (plain_losses losses) (plain_loss loss) x f.taken_from e into.lines (ap plain_cause is) in
+        let size = length-map p.switches.items plain_switch in
+        omega (arith, less, size)
+
+    pub step_result : HasResultBy (slice_get (plain_plant p).switches e) (length x) x into.lines
+    step_result = has_result (plain_plant p) p.proper (plain_losses losses) (plain_loss loss) x f.taken_from e into.lines (ap plain_cause is)
+
+  -- where a flow leads to a state of another record
+  module _ (records : AreRecords (plain_plant p) (plain_losses losses)) (k : ℕ) (through : PlainSystem) (is : loss.cause ≡ Flow k through) where
+    pub step_counted : (1 ≤ k) × (k - 1 < length losses)
+    step_counted =
+        let n = next_counted (plain_plant p) p.proper (plain_losses losses) (plain_loss loss) x f.taken_from records k through.lines (ap plain_cause is) in
+        let size = length-map losses plain_loss in
+        let low = n.1 in
+        (n.0, omega (arith, low, size))
+
+    module _ (further : Loss) (there : further ≡ get_or losses (k - 1) further) where
+      pub step_further : loss_at (plain_losses losses) k ≡ plain_loss further
+      step_further = loss_plain losses k further there step_counted.1
+
+      pub step_crosses : HasCrossing loss.piece.lines through.lines further.piece.lines (flow_rows (slice_get (plain_plant p).locs loss.loc)) x
+      step_crosses =
+          subst (λ (q : PlainLoss). HasCrossing loss.piece.lines through.lines q.piece (flow_rows (slice_get (plain_plant p).locs loss.loc)) x) step_further
+          (crosses_on (plain_plant p) p.proper (plain_losses losses) (plain_loss loss) x f.taken_from records k through.lines (ap plain_cause is))

@@ -4,7 +4,6 @@
 // rows of all such moves, with the state put in. It leaves the round, or leads to a state of a record with a smaller number, so the play ends.
 #![tactic(auto)]
 
-mod crossings;
 mod explaining;
 mod following;
 pub mod laws;

@@ -7,8 +7,8 @@ ghost use Rattle.lhg_play.specs.Views.{plain_move};
 ghost use Rattle.lhg_explain.specs.Explanation as calculus;
 ghost use Rattle.lhg_explain.specs.Results.{HasResult};
 
-use crate::crossings::cross_rows;
 use crate::samples::sample_of;
+use lhg_cross::cross_rows;
 use lhg_num::{Frac, Halt};
 use lhg_play::Move;
 use lhg_row::{Point, Row, append_rows, put_in_each};

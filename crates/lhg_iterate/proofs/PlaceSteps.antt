@@ -1,7 +1,6 @@
 -- Steps of one location of a round.
-use Rattle.std.proofs.Common.{◌≡◌, ◌+◌, ◌<◌, ◌≤◌, ◌^◌, ℕ, List, [], ◌∷◌, ◌++◌, false, length, get_or, map, Option, Some, sym, ap, ◌∙◌, subst, arith, length-append}
-use Rattle.std.specs.Global.{Vec}
-use Rattle.std.proofs.lemmas.List.{length-map, get_or-map}
+use Rattle.std.proofs.Common.{◌≡◌, ◌+◌, ◌<◌, ◌≤◌, ◌^◌, ℕ, List, [], ◌∷◌, ◌++◌, false, length, get_or, sym, ap, ◌∙◌, subst, arith, length-append}
+use Rattle.std.proofs.lemmas.List.{length-map}
 use Rattle.lhg_math.specs.Tests.{AllOf}
 use Rattle.lhg_num.specs.FracArithmetic.{frac_arithmetic}
 use Rattle.lhg_num.specs.Marked.{Marked, valued, IsRest}
@@ -9,7 +8,6 @@ use Rattle.lhg_num.specs.MarkedLaws.{IsPart, and_then-part, and_then-rest}
 use Rattle.lhg_row.specs.Lists.{is_past_list, piece_limit, minus}
 use Rattle.lhg_row.specs.ListLimits.{within-length}
 use Rattle.lhg_row.specs.Piece.{PlainPiece}
-use Rattle.lhg_row.specs.PieceFacts.{IsPoly, AllPolys}
 use Rattle.lhg_motion.specs.Found.{PlainFound, pieces_of, EachNamed}
 use Rattle.lhg_motion.specs.ReachCalculus.{reach}
 use Rattle.lhg_plant.specs.Plant.{PlainPlant, PlainLocation}
@@ -25,11 +23,6 @@ use Rattle.lhg_reach.specs.FoundParts.{plain_found, plain_founds}
 use Rattle.lhg_loss.specs.Records.{PlainRound, pieces_lost, hit_losses, found_cause, found_losses, losses_from, reached_losses, losses_at, round_at}
 use Rattle.lhg_loss.specs.RoundFacts.{AreReached, IsReachedAt}
 use Rattle.lhg_iterate.specs.Naming.{IsNameable}
-
--- ---- hits
--- the hits of a location are those of the list at its place
-pub hits-at : (xs : List (Vec Hit)) (l : ℕ) (v : Vec Hit) → v ≡ get_or xs l v → l < length xs → plain_hits v.items ≡ get_or (map (λ (hs : Vec Hit). plain_hits hs.items) xs) l []
-hits-at xs l v e h = ap (λ (w : Vec Hit). plain_hits w.items) e ∙ sym (get_or-map (λ (hs : Vec Hit). plain_hits hs.items) xs l v [] h)
 
 -- ---- found pieces
 -- each of them can be named: its way is there, and the piece that it leads to stands among the known and the found ones
@@ -58,11 +51,6 @@ hits-fewer away hits bad e =
     omega (arith, length-append away (hit_pieces (plain_hits hits)))
 
 -- ---- found pieces of a location
--- found pieces of these variables are pieces
-pub found-polys : (n : ℕ) (fs : List PlainFound) → AllOf (λ f. IsPoly frac_arithmetic n f.piece) fs → AllPolys frac_arithmetic n (pieces_of fs)
-found-polys n [] h = tt
-found-polys n (f ∷ fs) h = (h.0, found-polys n fs h.1)
-
 module _ (n round first l : ℕ) (away : List PlainPiece) (hits : List PlainHit) (near : List PlainPiece) (flow : PlainPiece) where
   -- the marks of reach are those of the records
   pub from-part : IsPart (reached_losses n round l first away hits near flow) (reach frac_arithmetic n (away ++ hit_pieces hits) near flow)
@@ -144,7 +132,3 @@ module _ (a : PlainPlant) (region : PlainRegion) (outs : PlainOuts) (kss : Plain
         → rest ≡ (minus frac_arithmetic (length a.vars) (pieces_at region l) (pieces_lost ls)).value → round_from losses next ≡ whole.value
     round-value losses next rest losses_are next_is rest_is =
         ap (λ x. round_from x next) losses_are ∙ ap (λ x. round_from (so_far.losses ++ ls) x) next_is ∙ ap (λ x. round_from (so_far.losses ++ ls) (so_far.next ++ x ∷ [])) rest_is ∙ round-rest.same
-
--- what is there is one thing
-pub some-same : {A : Type 0} (o : Option A) (x y : A) → o ≡ Some x → o ≡ Some y → x ≡ y
-some-same o x y h k = cc

@@ -16,14 +16,13 @@ ghost use Rattle.lhg_union.specs.PolyLists.{lines_of, AllVars};
 ghost use Rattle.lhg_union.specs.Regions.{plain_region};
 ghost use Rattle.lhg_jump.specs.PlantLists.{AreListsOf, IsRegionOf, AreGuardsOf};
 
-use crate::invariants::invariants;
+use crate::invariant_lists::invariants;
 use crate::outs::away_of;
 use crate::predecessors::pre_list;
-use crate::telling::tell_region;
 use lhg_num::{Frac, Halt};
 use lhg_plant::{Plant, Side, Switch};
 use lhg_poly::Poly;
-use lhg_union::{Region, meet_lists, minus};
+use lhg_union::{Region, meet_lists, minus, tell_lists};
 use std::alloc::Global;
 
 /// For each switch the states that it keeps in the region, where `away` is the states outside it: for side `ctl` those with a legal
@@ -43,8 +42,8 @@ pub fn back(
     ensures lists { IfOk result (λ v. AreGuardsOf plant.now v.items) }
     ensures points { IfOk result (λ v. AreBacks (plain_plant plant.now) (plain_region region.now.pieces.items) (plain_region v.items)) }
 {
-    tell_region(&region.pieces);
-    tell_region(&away.pieces);
+    tell_lists(&region.pieces);
+    tell_lists(&away.pieces);
     let invs = invariants(alloc, plant)?;
     let mut backs = Vec::with_capacity(alloc, plant.switches.len())?;
     for switch in &plant.switches {
@@ -67,7 +66,7 @@ pub fn guards(
     ensures lists { IfOk result (λ v. AreGuardsOf plant.now v.items) }
     ensures points { IfOk result (λ v. HasExactGuards (plain_plant plant.now) (record { region = plain_region region.now.pieces.items; guards = plain_region v.items })) }
 {
-    tell_region(&region.pieces);
+    tell_lists(&region.pieces);
     let invs = invariants(alloc, plant)?;
     let away = away_of(alloc, plant, &invs, &region.pieces)?;
     let mut guards = Vec::with_capacity(alloc, plant.switches.len())?;

@@ -4,16 +4,16 @@
 
 mod backs;
 mod hits;
-mod invariants;
+mod invariant_lists;
 mod outs;
 mod predecessors;
 mod safe;
-mod telling;
 #[cfg(test)]
 mod tests;
 
 pub use backs::{back, guards};
 pub use hits::Hit;
+pub use invariant_lists::invariants;
 pub use outs::{Outs, out};
 pub use predecessors::pre;
 pub use safe::safe_region;

@@ -13,12 +13,11 @@ ghost use Rattle.lhg_jump.specs.OutViews.{plain_outs};
 ghost use Rattle.lhg_jump.specs.PlantLists.{AreListsOf};
 
 use crate::hits::{Hit, hits_at};
-use crate::invariants::invariants;
-use crate::telling::tell_region;
+use crate::invariant_lists::invariants;
 use lhg_num::{Frac, Halt};
 use lhg_plant::Plant;
 use lhg_poly::Poly;
-use lhg_union::{Region, minus};
+use lhg_union::{Region, minus, tell_lists};
 use std::alloc::Global;
 
 /// The states outside a region, and those of the region from which an uncontrollable switch leads there, location by location.
@@ -38,7 +37,7 @@ pub fn out(alloc: Global, plant: &Plant, region: &Region<Frac>) -> Result<Outs, 
     ensures hits { IfOk result (λ o. AreHitsOf plant.now o.hits.items) }
     ensures points { IfOk result (λ o. IsOutOf (plain_plant plant.now) (InRegion (plain_plant plant.now) (plain_region region.now.pieces.items)) (plain_outs o)) }
 {
-    tell_region(&region.pieces);
+    tell_lists(&region.pieces);
     let invs = invariants(alloc, plant)?;
     let away = away_of(alloc, plant, &invs, &region.pieces)?;
     let hits = all_hits(alloc, plant, &invs, &away, &region.pieces)?;

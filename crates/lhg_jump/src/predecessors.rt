@@ -11,13 +11,12 @@ ghost use Rattle.lhg_plant.specs.SwitchFacts.{IsPreOf};
 ghost use Rattle.lhg_plant.specs.Views.{plain_plant};
 ghost use Rattle.lhg_union.specs.PolyLists.{lines_of, AllVars};
 
-use crate::invariants::invariant_list;
-use crate::telling::tell_pieces;
+use crate::invariant_lists::invariant_list;
 use lhg_num::{Frac, Halt};
 use lhg_plant::Plant;
 use lhg_poly::{Poly, project};
 use lhg_row::{Row, append_rows, append_widened, trim};
-use lhg_union::{gather, push_some};
+use lhg_union::{gather, push_some, tell_pieces};
 use std::alloc::Global;
 
 /// The states with a legal result of the switch in the target, which lies inside the invariant of the location that the switch

@@ -15,7 +15,7 @@ ghost use Rattle.lhg_union.specs.PolyLists.{lines_of, AllVars};
 ghost use Rattle.lhg_union.specs.Regions.{plain_region};
 ghost use Rattle.lhg_jump.specs.PlantLists.{IsRegionOf};
 
-use crate::invariants::invariant_list;
+use crate::invariant_lists::invariant_list;
 use lhg_num::{Frac, Halt};
 use lhg_plant::{Location, Plant};
 use lhg_poly::{Poly, make};

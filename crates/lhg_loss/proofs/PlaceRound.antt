@@ -99,7 +99,7 @@ place_round a region l round first place away hits near found shape there sets r
     let rest_is : rest ≡ (minus frac_arithmetic n here gone).value = ap (λ w. (minus frac_arithmetic n here w).value) lost_is in
     let points = rest_points a region l place there here refl here_polys inside away hits near sets found reached gone_over rest rest_is in
     let not_rest : (p : PlainPoint) → length p ≡ n → InSome gone p → ¬ InSome rest p = λ p e k r. ((points p e).0 r).1 k in
-    let bad_in = bad_out a region l place there here refl here_polys inside away hits near sets in
+    let bad_in = bad_out a region l away hits sets.away_is sets.hits_are in
     let ways_may : (p : PlainPoint) → length p ≡ n → InSome ways p → IsState a (state_at l p) × MayPass a S (Back a S) (state_at l p) =
     λ p e h. elim (in_either bad near p h) [
       | inl k ↦ (let o = bad_in p e k in (out_state a S (state_at l p) o, inl o))

@@ -14,7 +14,7 @@ use Rattle.lhg_row.specs.CoveredLaws.{polys-over}
 use Rattle.lhg_row.specs.SomeLists.{in_left, in_right, in_either}
 use Rattle.lhg_motion.specs.Found.{PlainFound, pieces_of}
 use Rattle.lhg_plant.specs.Plant.{PlainLocation, PlainPlant}
-use Rattle.lhg_plant.specs.State.{PlainState, IsState}
+use Rattle.lhg_plant.specs.State.{PlainState, States, IsState}
 use Rattle.lhg_plant.specs.OutBack.{Out, Back, LeavesBySwitch}
 use Rattle.lhg_plant.specs.Escape.{HasEscape}
 use Rattle.lhg_plant.specs.Round.{Next}
@@ -22,7 +22,7 @@ use Rattle.lhg_plant.specs.Region.{PlainRegion, InRegion}
 use Rattle.lhg_plant.specs.Sound.{IsInside}
 use Rattle.lhg_plant.specs.Split.{AreSplit}
 use Rattle.lhg_plant.specs.OutCalculus.{PlainHit, hit_pieces}
-use Rattle.lhg_plant.specs.SwitchFacts.{state_at, IsHit}
+use Rattle.lhg_plant.specs.SwitchFacts.{state_at, IsAway, IsHit, AreHits}
 use Rattle.lhg_plant.proofs.Decided.{region_decided}
 use Rattle.lhg_plant.proofs.Reached.{escape_play, play_escape}
 use Rattle.lhg_loss.specs.RoundFacts.{AreSwitchSets, AreReached}
@@ -63,6 +63,36 @@ hit_leaves a S l (hit ∷ hits) h p e (inl k) =
     (h.0.kept p e k, record { number = hit.switch; result = r.0; side = h.0.side; legal = r.1; gone = h.0.missed r.0 r.2 })
 hit_leaves a S l (hit ∷ hits) h p e (inr k) = hit_leaves a S l hits h.1 p e k
 
+-- one location of a plant, a region, and the states outside it and the hits
+module _ (a : PlainPlant) (region : PlainRegion) (l : ℕ) (away : List PlainPiece) (hits : List PlainHit) (away_is : IsAway a (InRegion a region) l away) (hits_are : AreHits a (InRegion a region) l hits) where
+  -- the bad pieces hold what is in Out
+  pub bad_out : (p : PlainPoint) → length p ≡ length a.vars → InSome (away ++ hit_pieces hits) p → Out a (InRegion a region) (state_at l p)
+  bad_out p e h =
+      elim (in_either away (hit_pieces hits) p h) [
+        | inl k ↦ inl ((away_is.exact p e).0 k)
+        | inr k ↦ inr (hit_leaves a (InRegion a region) l hits hits_are.sound p e k).1
+      ]
+
+  out_bad : (p : PlainPoint) → Out a (InRegion a region) (state_at l p) → InSome (away ++ hit_pieces hits) p
+  out_bad p (inl o) = in_left away (hit_pieces hits) p ((away_is.exact p o.0.fits).1 o)
+  out_bad p (inr o) =
+      elim (region_decided a region (state_at l p)) [
+        | inl k ↦ in_right away (hit_pieces hits) p (hits_are.all p k o)
+        | inr k ↦ in_left away (hit_pieces hits) p ((away_is.exact p o.legal.start.fits).1 (o.legal.start, k))
+      ]
+
+  -- so an escape past a set may pass the bad pieces and those of the states of the region outside the set
+  pub split_by : (K : States) (place : PlainLocation) → slice_get a.locs l ≡ Some place → (near : List PlainPiece)
+      → ((p : PlainPoint) → length p ≡ length a.vars → InSome near p ↔ (InRegion a region (state_at l p) × ¬ K (state_at l p)))
+      → (q : PlainPoint) → AreSplit a (InRegion a region) K (state_at l q) place (away ++ hit_pieces hits) near
+  split_by K place there near near_is q = record {
+    is_there = there;
+    bad_in = bad_out;
+    bad_all = out_bad;
+    near_in = λ p e h. (let k = (near_is p e).0 h in (k.0.state, k.1));
+    near_all = λ p i o b. elim (region_decided a region (state_at l p)) [ inl k ↦ (near_is p i.fits).1 (k, b) | inr k ↦ absurd (o (inl (i, k))) ];
+  }
+
 -- one location of a plant, a region, and the lists that a round makes of it
 module _ (a : PlainPlant) (region : PlainRegion) (l : ℕ) (place : PlainLocation) (there : slice_get a.locs l ≡ Some place) (here : List PlainPiece) (here_is : here ≡ get_or region l [])
     (here_polys : AllPolys frac_arithmetic (length a.vars) here) (inside : AllOf (IsInside a l) here) (away : List PlainPiece) (hits : List PlainHit) (near : List PlainPiece)
@@ -83,31 +113,9 @@ module _ (a : PlainPlant) (region : PlainRegion) (l : ℕ) (place : PlainLocatio
   pub in_here : (p : PlainPoint) → S (state_at l p) → InSome here p
   in_here p s = subst (λ (w : List PlainPiece). InSome w p) (sym here_is) s.some
 
-  -- the bad pieces hold what is in Out
-  pub bad_out : (p : PlainPoint) → length p ≡ n → InSome bad p → Out a S (state_at l p)
-  bad_out p e h =
-      elim (in_either away (hit_pieces hits) p h) [
-        | inl k ↦ inl ((sets.away_is.exact p e).0 k)
-        | inr k ↦ inr (hit_leaves a S l hits sets.hits_are.sound p e k).1
-      ]
-
-  out_bad : (p : PlainPoint) → Out a S (state_at l p) → InSome bad p
-  out_bad p (inl o) = in_left away (hit_pieces hits) p ((sets.away_is.exact p o.0.fits).1 o)
-  out_bad p (inr o) =
-      elim (region_decided a region (state_at l p)) [
-        | inl k ↦ in_right away (hit_pieces hits) p (sets.hits_are.all p k o)
-        | inr k ↦ in_left away (hit_pieces hits) p ((sets.away_is.exact p o.legal.start.fits).1 (o.legal.start, k))
-      ]
-
-  -- so an escape may pass the bad and near pieces
+  -- an escape may pass the bad and near pieces
   pub split : (q : PlainPoint) → AreSplit a S (Back a S) (state_at l q) place bad near
-  split q = record {
-    is_there = there;
-    bad_in = bad_out;
-    bad_all = out_bad;
-    near_in = λ p e h. (let k = (sets.near_is p e).0 h in (k.0.state, k.1));
-    near_all = λ p i o b. elim (region_decided a region (state_at l p)) [ inl k ↦ (sets.near_is p i.fits).1 (k, b) | inr k ↦ absurd (o (inl (i, k))) ];
-  }
+  split q = split_by a region l away hits sets.away_is sets.hits_are (Back a S) place there near sets.near_is q
 
   module _ (found : List PlainFound) (reached : AreReached n bad near place.flow found) where
     -- the states with an escape are those of the bad and found pieces

@@ -120,6 +120,11 @@ module _ (a : Arithmetic) (n : ℕ) (start through into flow : PlainPiece) (ws :
           middle = halfway.0 s4.1;
         }
 
+    -- it is this one
+    pub rows_middle-is : (h : InPiece (cross_rows a n start through into flow).value both) → ((rows_middle h).time ≡ t) × ((rows_middle h).to ≡ y)
+    unfolding rows_middle
+    rows_middle-is h = (refl, refl)
+
   -- the rows hold at the ends and the time of each straight flow
   pub middle_rows : (x : PlainPoint) → length x ≡ n → (m : HasMiddle start through into flow x) → InPiece (cross_rows a n start through into flow).value (x ++ m.to ++ m.time ∷ [])
   middle_rows x lx m =

@@ -30,7 +30,7 @@ gap_step : (s t c x y : Number) → add (add t (neg s)) (mul c (add y (neg x))) 
 gap_step s t c x y = simp sums
 
 -- the value on the differences is the difference of the values
-value_gap : (s t : Number) (cs : List Number) (xs ys : PlainPoint) → length xs ≡ length ys → row_value (add t (neg s)) cs (displacement xs ys) ≡ add (row_value t cs ys) (neg (row_value s cs xs))
+pub value_gap : (s t : Number) (cs : List Number) (xs ys : PlainPoint) → length xs ≡ length ys → row_value (add t (neg s)) cs (displacement xs ys) ≡ add (row_value t cs ys) (neg (row_value s cs xs))
 value_gap s t [] xs ys e = refl
 value_gap s t (c ∷ cs) [] [] e = refl
 value_gap s t (c ∷ cs) [] (y ∷ ys) e = absurd (omega arith)

@@ -1,69 +1,32 @@
 -- The joined lists of the switches of a location are its states in Back, and guards are the states of the region in Back by their switch.
-use Rattle.std.proofs.Common.{◌≡◌, ◌↔◌, ◌⊎◌, inl, inr, ℕ, zero, suc, Bool, true, false, cond, List, [], ◌∷◌, ◌++◌, length, get_or, slice_get, nat_eq, IsSomeAnd, Option, Some, None, refl, sym, ap, ◌∙◌, subst, arith}
+use Rattle.std.proofs.Common.{◌≡◌, ◌↔◌, ℕ, [], length, get_or, slice_get, IsSomeAnd, Option, Some, None, refl, sym, ap, ◌∙◌, subst}
 use Rattle.std.specs.Prelude.{IfSome}
-use Rattle.std.proofs.lemmas.Bool.{eq-eqb, eqb-true}
-use Rattle.lhg_math.specs.Tests.{AllOf, by_bool}
 use Rattle.lhg_num.specs.FracArithmetic.{frac_arithmetic, frac_is_lawful}
 use Rattle.lhg_row.specs.Row.{PlainPoint}
-use Rattle.lhg_row.specs.Piece.{PlainPiece, InPiece, InSome}
-use Rattle.lhg_row.specs.SomeLists.{in_left, in_right, in_either}
-use Rattle.lhg_row.specs.Members.{all-append}
-use Rattle.lhg_row.specs.PieceFacts.{IsPoly, AllOver, AllPolys}
+use Rattle.lhg_row.specs.Piece.{InSome}
+use Rattle.lhg_row.specs.PieceFacts.{AllPolys}
 use Rattle.lhg_row.specs.MinusLaws.{minus-exact}
 use Rattle.lhg_row.specs.MeetListsLaws.{meet_lists-exact}
 use Rattle.lhg_row.specs.CoveredLaws.{polys-over}
 use Rattle.lhg_row.specs.Lists.{minus, meet_lists}
 use Rattle.lhg_plant.specs.Plant.{PlainSwitch, PlainPlant}
 use Rattle.lhg_plant.specs.Proper.{IsProper}
-use Rattle.lhg_plant.specs.State.{PlainState, States, IsState}
+use Rattle.lhg_plant.specs.State.{PlainState, IsState}
 use Rattle.lhg_plant.specs.OutBack.{StaysBy, BackBy, Back}
 use Rattle.lhg_plant.specs.Region.{PlainRegion, PlainGuards, InRegion, InGuard}
 use Rattle.lhg_plant.specs.Laws.{HasExactGuards}
 use Rattle.lhg_plant.specs.Invariants.{pieces_at, invariants}
 use Rattle.lhg_plant.specs.OutCalculus.{away, out}
-use Rattle.lhg_plant.specs.BackCalculus.{back_by, back, joined_at, back_at, near_at, guard_by, guards}
+use Rattle.lhg_plant.specs.BackCalculus.{back, joined_at, near_at, guard_by, guards}
 use Rattle.lhg_plant.specs.Inside.{AllInside, IsRegionOver, IsRegionInside}
 use Rattle.lhg_plant.specs.SwitchFacts.{state_at, IsOutside, AreBacks, IsBack, IsNear}
 use Rattle.lhg_plant.specs.SwitchLaws.{KeepLaws}
-use Rattle.lhg_plant.proofs.Options.{some_there, there_some}
+use Rattle.lhg_plant.proofs.Options.{some_there}
 use Rattle.lhg_plant.proofs.ListSteps.{difference-in, intersection-in}
 use Rattle.lhg_plant.proofs.InsideStates.{some_inside}
-use Rattle.lhg_plant.proofs.AwayStates.{away-states}
+use Rattle.lhg_plant.proofs.JoinedLists.{InListOf, joined-in, joined-polys}
 use Rattle.lhg_plant.proofs.OutStates.{out-states}
 use Rattle.lhg_plant.proofs.BackStates.{each-at, back-list, back-states}
-
--- ---- joined lists
--- a point is in the joined lists exactly where it is in the list of some switch that leaves the location
-record InListOf (l : ℕ) (ws : List PlainSwitch) (kss : PlainGuards) (p : PlainPoint) : Type 0 where
-  number : ℕ
-  leaves : IsSomeAnd (slice_get ws number) (λ w. w.from ≡ l)
-  some : InSome (get_or kss number []) p
-
--- the list of one switch, or one of the others
-into_joined : (l : ℕ) (w : PlainSwitch) (ws : List PlainSwitch) (ks : List PlainPiece) (kss : PlainGuards) (p : PlainPoint) → (InListOf l ws kss p → InSome (joined_at l ws kss) p)
-    → (e : ℕ) → IsSomeAnd (slice_get (w ∷ ws) e) (λ w. w.from ≡ l) → InSome (get_or (ks ∷ kss) e []) p → InSome (joined_at l (w ∷ ws) (ks ∷ kss)) p
-into_joined l w ws ks kss p rest zero leaves some = in_left (cond (nat_eq w.from l) ks []) (joined_at l ws kss) p (subst (λ b. InSome (cond b ks []) p) (sym (eq-eqb w.from l leaves)) some)
-into_joined l w ws ks kss p rest (suc e) leaves some = in_right (cond (nat_eq w.from l) ks []) (joined_at l ws kss) p (rest (record { number = e; leaves = leaves; some = some }))
-
-joined-in : (l : ℕ) (ws : List PlainSwitch) (kss : PlainGuards) (p : PlainPoint) → InSome (joined_at l ws kss) p ↔ InListOf l ws kss p
-joined-in l [] kss p = (λ h. absurd h, λ h. absurd h.leaves)
-joined-in l (w ∷ ws) [] p = (λ h. absurd h, λ h. absurd h.some)
-joined-in l (w ∷ ws) (ks ∷ kss) p = (
-  λ h. elim (in_either (cond (nat_eq w.from l) ks []) (joined_at l ws kss) p h) [
-    | inl k ↦ by_bool (nat_eq w.from l)
-        (λ t. record { number = 0; leaves = eqb-true w.from l t; some = subst (λ b. InSome (cond b ks []) p) t k })
-        (λ f. absurd (subst (λ b. InSome (cond b ks []) p) f k))
-    | inr k ↦ let r = (joined-in l ws kss p).0 k in record { number = suc r.number; leaves = r.leaves; some = r.some }
-  ],
-  λ h. into_joined l w ws ks kss p (λ r. (joined-in l ws kss p).1 r) h.number h.leaves h.some,
-)
-
-joined-polys : (n l : ℕ) (ws : List PlainSwitch) (kss : PlainGuards) → ((e : ℕ) → AllPolys frac_arithmetic n (get_or kss e [])) → AllPolys frac_arithmetic n (joined_at l ws kss)
-joined-polys n l [] kss h = tt
-joined-polys n l (w ∷ ws) [] h = tt
-joined-polys n l (w ∷ ws) (ks ∷ kss) h =
-    all-append (IsPoly frac_arithmetic n) (cond (nat_eq w.from l) ks []) (joined_at l ws kss)
-    (by_bool (nat_eq w.from l) (λ t. rw t (h 0)) (λ f. rw f tt)) (joined-polys n l ws kss (λ e. h (suc e)))
 
 module _ (a : PlainPlant) (proper : IsProper a) (region : PlainRegion) (region_in : IsRegionInside a region) where
   abbrev n : ℕ

@@ -9,6 +9,7 @@ pub mod HitStates
 pub mod HitSteps
 pub mod InsideStates
 pub mod InvariantPoints
+pub mod JoinedLists
 pub mod KeepStates
 pub mod LegalExact
 pub mod LegalSteps

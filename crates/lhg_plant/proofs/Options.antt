@@ -32,3 +32,7 @@ find_some (Some w) = inl (w, refl)
 -- not both
 pub none_there : {A : Type 0} (o : Option A) (w : A) → o ≡ None → o ≡ Some w → ⊥
 none_there o w e f = cc
+
+-- what is there is one thing
+pub some_same : {A : Type 0} (o : Option A) (x y : A) → o ≡ Some x → o ≡ Some y → x ≡ y
+some_same o x y e f = cc

@@ -1,9 +1,9 @@
 -- The place that is formed for a row is the one at which it turns, where there is one.
-use Rattle.std.proofs.Common.{◌≡◌, ◌⊎◌, true, false, if◌then◌else◌, cond, List, [], ◌∷◌, length, Option, Some, None, refl, sym, ap, ◌∙◌, subst, arith}
-use Rattle.lhg_math.specs.Number.{Number, add, sub, mul, neg, lt, nought, unit, quot, compare}
-use Rattle.lhg_math.specs.NumberRing.{sums, sub_is, add-neg, add-nought, add_comm, mul_comm}
+use Rattle.std.proofs.Common.{◌≡◌, true, false, [], ◌∷◌, length, Option, Some, None, refl, sym, ap, ◌∙◌, subst}
+use Rattle.lhg_math.specs.Number.{Number, add, sub, neg, lt, nought, unit, quot}
+use Rattle.lhg_math.specs.NumberRing.{sums, sub_is, add-neg, add-nought, mul_comm}
 use Rattle.lhg_math.specs.NumberOrder.{lt_asym, lt_irrefl, lt_antisymm, lt-difference, difference-lt}
-use Rattle.lhg_math.specs.Interpolate.{interpolate, interpolate_is}
+use Rattle.lhg_math.specs.Interpolate.{interpolate_is}
 use Rattle.lhg_math.specs.Crossings.{level_once}
 use Rattle.lhg_math.specs.Places.{IsPlace}
 use Rattle.lhg_math.specs.Quotients.{mul-quot}
@@ -11,7 +11,6 @@ use Rattle.lhg_math.specs.Signs.{is_nought}
 use Rattle.lhg_math.specs.SignLaws.{nought_is, is_nought-nought, abs_pos}
 use Rattle.lhg_math.specs.Tests.{by_bool}
 use Rattle.lhg_num.specs.FracArithmetic.{frac_arithmetic}
-use Rattle.lhg_num.specs.Marked.{Marked, done, and_then, valued, marked_cmp}
 use Rattle.lhg_row.specs.Row.{PlainPoint, PlainRow, row_value, value_at, IsTight}
 use Rattle.lhg_row.specs.Decisions.{clash}
 use Rattle.lhg_row.specs.Values.{marked_value}
@@ -19,8 +18,9 @@ use Rattle.lhg_row.specs.ValueLaws.{marked_value-value}
 use Rattle.lhg_motion.specs.Segment.{along}
 use Rattle.lhg_motion.specs.SegmentLemmas.{value_along}
 use Rattle.lhg_motion.specs.Flow.{displacement}
+use Rattle.lhg_motion.specs.FlowRowLaws.{value_gap}
 use Rattle.lhg_motion.specs.CheckPoint.{IsTurn}
-use Rattle.lhg_play.specs.Cut.{change, upto_end, kept_place, level_place, turn_place}
+use Rattle.lhg_play.specs.Cut.{change, kept_place, turn_place}
 
 -- the change that is formed is the displacement
 pub change-value : (x y : PlainPoint) → (change x y).value ≡ displacement x y
@@ -29,18 +29,6 @@ change-value (x ∷ xs) [] = refl
 change-value (x ∷ xs) (y ∷ ys) = ap (λ ds. sub y x ∷ ds) (change-value xs ys)
 
 -- ---- values
-gap_step : (s t c x y : Number) → add (add t (neg s)) (mul c (add y (neg x))) ≡ add (add t (mul c y)) (neg (add s (mul c x)))
-gap_step s t c x y = simp sums
-
--- the value on the differences is the difference of the values
-value_gap : (s t : Number) (cs : List Number) (xs ys : PlainPoint) → length xs ≡ length ys → row_value (add t (neg s)) cs (displacement xs ys) ≡ add (row_value t cs ys) (neg (row_value s cs xs))
-value_gap s t [] xs ys e = refl
-value_gap s t (c ∷ cs) [] [] e = refl
-value_gap s t (c ∷ cs) [] (y ∷ ys) e = absurd (omega arith)
-value_gap s t (c ∷ cs) (x ∷ xs) [] e = absurd (omega arith)
-value_gap s t (c ∷ cs) (x ∷ xs) (y ∷ ys) e =
-    ap (λ w. row_value w cs (displacement xs ys)) (ap (λ w. add (add t (neg s)) (mul c w)) (sub_is y x) ∙ gap_step s t c x y) ∙ value_gap (add s (mul c x)) (add t (mul c y)) cs xs ys (omega arith)
-
 -- the slope of a row
 abbrev slope : PlainRow → PlainPoint → PlainPoint → Number
 slope r x y = add (value_at r y) (neg (value_at r x))

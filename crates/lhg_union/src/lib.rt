@@ -6,6 +6,7 @@ mod differences;
 mod intersections;
 mod limits;
 mod regions;
+mod telling;
 #[cfg(test)]
 mod tests;
 
@@ -14,3 +15,4 @@ pub use differences::{copies, covered, minus};
 pub use intersections::meet_lists;
 pub use limits::{LIST_ROW_LIMIT, PIECE_LIMIT, gather, is_within};
 pub use regions::Region;
+pub use telling::{tell_lists, tell_pieces};

@@ -3,6 +3,7 @@ use Rattle.lhg_num.specs.FracArithmetic.{frac_arithmetic}
 use Rattle.lhg_row.specs.Piece.{PlainPiece}
 use Rattle.lhg_row.specs.Width.{AllWide}
 use Rattle.lhg_motion.specs.ReachCalculus.{reach}
+use Rattle.lhg_motion.specs.ReachCases.{found-polys}
 use Rattle.lhg_plant.specs.BackCalculus.{near_at}
 use Rattle.lhg_plant.specs.Views.{plain_plant}
 use Rattle.lhg_union.specs.PolyLists.{lines_of, AllVars}
@@ -11,7 +12,6 @@ use Rattle.lhg_reach.specs.FoundParts.{plain_founds}
 use Rattle.lhg_reach.specs.Widths.{AllOverVars}
 use Rattle.lhg_jump.proofs.Answering.{location-is}
 use Rattle.lhg_loss.specs.RoundFacts.{AreReached}
-use Rattle.lhg_check.proofs.EscapeSteps.{found-polys}
 use Rattle.lhg_check.proofs.escaping.found_from.Goals as goal
 
 pub returns-clause-vars : goal.returns-clause-vars
@@ -40,7 +40,7 @@ returns-clause-reached c =
     let held = lines_of c.deref.result.now in
     let flow = c.deref-2.result.now in
     let here : AreReached n bad held flow fs = record {
-      polys = found-polys n fs (c.in_ok-reached.ensures.polys n over);
+      polys = found-polys frac_arithmetic n fs (c.in_ok-reached.ensures.polys n over);
       exact = c.in_ok-reached.ensures.points n over;
       named = c.in_ok-reached.ensures.named n over;
     } in

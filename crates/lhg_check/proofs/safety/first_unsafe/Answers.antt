@@ -9,11 +9,9 @@ use Rattle.lhg_row.specs.System.{PlainSystem}
 use Rattle.lhg_plant.specs.Invariants.{pieces_at}
 use Rattle.lhg_plant.specs.SafeRegion.{safe_region}
 use Rattle.lhg_plant.specs.Views.{plain_location, plain_plant}
-use Rattle.lhg_union.specs.PolyLists.{lines_of}
 use Rattle.lhg_union.specs.Regions.{plain_region}
 use Rattle.lhg_union.proofs.Halts.{all_on_rows}
-use Rattle.lhg_jump.proofs.AwayCode.{vars-at}
-use Rattle.lhg_jump.proofs.RangeSteps.{lines-at}
+use Rattle.lhg_jump.proofs.AwayCode.{less-at}
 use Rattle.lhg_check.specs.Check.{first_of, first_piece, unsafe_at, unsafe_pieces}
 use Rattle.lhg_check.specs.Views.{plain_piece, plain_first}
 use Rattle.lhg_check.proofs.FirstSteps.{whole_part, at_part, at_first, at_end, here_none, piece_some, piece_none, some_if, there_is}
@@ -35,13 +33,9 @@ first_left-requires c =
     let xs = c.args.region.now.pieces.items in
     let ys = c.in_ok-safe.safe.pieces.items in
     let below : l < length p.locs.items = search rules in
-    let in_region : l < length xs = let m = c.requires.many in omega arith in
-    let in_safe : l < length ys = let m = c.in_ok-safe.ensures.region.has_lists.many in omega arith in
-    record {
-      vars = n;
-      first = vars-at n xs l c.index.result.now c.deref.result.now c.deref.ensures.value c.index.ensures in_region c.requires.vars;
-      second = vars-at n ys l c.index-in-loop-l.result.now c.deref-in-loop-l.result.now c.deref-in-loop-l.ensures.value c.index-in-loop-l.ensures in_safe c.in_ok-safe.ensures.region.has_lists.vars;
-    }
+    let r = less-at p xs ys l c.requires c.in_ok-safe.ensures.region.has_lists below c.index.result.now c.index-in-loop-l.result.now c.index.ensures c.index-in-loop-l.ensures
+    c.deref.result.now c.deref-in-loop-l.result.now c.deref.ensures.value c.deref-in-loop-l.ensures.value in
+    record { vars = n; first = r.first; second = r.second }
 
 pub returns-in_err-piece-clause-calculus : goal.returns-in_err-piece-clause-calculus
 returns-in_err-piece-clause-calculus c =
@@ -54,18 +48,14 @@ returns-in_err-piece-clause-calculus c =
     let region = plain_region xs in
     let safe = plain_region ys in
     let below : l < length p.locs.items = search rules in
-    let in_region : l < length xs = let m = c.requires.many in omega arith in
-    let in_safe : l < length ys = let m = c.in_ok-safe.ensures.region.has_lists.many in omega arith in
-    let first = vars-at n xs l c.index.result.now c.deref.result.now c.deref.ensures.value c.index.ensures in_region c.requires.vars in
-    let second = vars-at n ys l c.index-in-loop-l.result.now c.deref-in-loop-l.result.now c.deref-in-loop-l.ensures.value c.index-in-loop-l.ensures in_safe c.in_ok-safe.ensures.region.has_lists.vars in
-    let same = ap (λ ps. minus frac_arithmetic n ps (lines_of c.deref-in-loop-l.result.now)) (ap lines_of c.deref.ensures.value ∙ lines-at xs l c.index.result.now c.index.ensures in_region)
-    ∙ ap (minus frac_arithmetic n (pieces_at region l)) (ap lines_of c.deref-in-loop-l.ensures.value ∙ lines-at ys l c.index-in-loop-l.result.now c.index-in-loop-l.ensures in_safe) in
+    let r = less-at p xs ys l c.requires c.in_ok-safe.ensures.region.has_lists below c.index.result.now c.index-in-loop-l.result.now c.index.ensures c.index-in-loop-l.ensures
+    c.deref.result.now c.deref-in-loop-l.result.now c.deref.ensures.value c.deref-in-loop-l.ensures.value in
     let rest = unsafe-all a region safe c.in_ok-safe.ensures.calculus in
     let whole = valued first_piece (unsafe_pieces a region) in
     let in_locs : l < length a.locs = omega (arith, below, length-map p.locs.items plain_location) in
     let x = there_is a.locs l in_locs in
-    part_halts c.from_residual-in_err-piece.result c.in_err-piece.field-0.0 whole plain_first _ plain_piece c.from_residual-in_err-piece.ensures.1 (c.in_err-piece.ensures.calculus n first second)
-    (subst (λ m. IsPart whole (valued first_of m)) (sym same) (at_part (unsafe_at n safe region) a.locs (unsafe_pieces a region) rest l x.0 x.1))
+    part_halts c.from_residual-in_err-piece.result c.in_err-piece.field-0.0 whole plain_first _ plain_piece c.from_residual-in_err-piece.ensures.1 (c.in_err-piece.ensures.calculus n r.first r.second)
+    (subst (λ m. IsPart whole (valued first_of m)) (sym r.same) (at_part (unsafe_at n safe region) a.locs (unsafe_pieces a region) rest l x.0 x.1))
 
 pub returns-in-Some-clause-calculus : goal.returns-in-Some-clause-calculus
 returns-in-Some-clause-calculus c =
@@ -78,15 +68,11 @@ returns-in-Some-clause-calculus c =
     let region = plain_region xs in
     let safe = plain_region ys in
     let below : l < length p.locs.items = search rules in
-    let in_region : l < length xs = let m = c.requires.many in omega arith in
-    let in_safe : l < length ys = let m = c.in_ok-safe.ensures.region.has_lists.many in omega arith in
-    let first = vars-at n xs l c.index.result.now c.deref.result.now c.deref.ensures.value c.index.ensures in_region c.requires.vars in
-    let second = vars-at n ys l c.index-in-loop-l.result.now c.deref-in-loop-l.result.now c.deref-in-loop-l.ensures.value c.index-in-loop-l.ensures in_safe c.in_ok-safe.ensures.region.has_lists.vars in
-    let same = ap (λ ps. minus frac_arithmetic n ps (lines_of c.deref-in-loop-l.result.now)) (ap lines_of c.deref.ensures.value ∙ lines-at xs l c.index.result.now c.index.ensures in_region)
-    ∙ ap (minus frac_arithmetic n (pieces_at region l)) (ap lines_of c.deref-in-loop-l.ensures.value ∙ lines-at ys l c.index-in-loop-l.result.now c.index-in-loop-l.ensures in_safe) in
+    let r = less-at p xs ys l c.requires c.in_ok-safe.ensures.region.has_lists below c.index.result.now c.index-in-loop-l.result.now c.index.ensures c.index-in-loop-l.ensures
+    c.deref.result.now c.deref-in-loop-l.result.now c.deref.ensures.value c.deref-in-loop-l.ensures.value in
     let in_locs : l < length a.locs = omega (arith, below, length-map p.locs.items plain_location) in
     let x = there_is a.locs l in_locs in
-    let found = c.in_ok-piece.ensures.calculus n first second ∙ ap (λ m. first_of m.value) same in
+    let found = c.in_ok-piece.ensures.calculus n r.first r.second ∙ ap (λ m. first_of m.value) r.same in
     at_first (unsafe_at n safe region) a.locs (unsafe_pieces a region) (unsafe-all a region safe c.in_ok-safe.ensures.calculus) l x.0 x.1 c.in-Some.piece.lines c.loop-l.invariant
     (piece_some c.in_ok-piece.piece c.in-Some.piece (first_of (minus frac_arithmetic n (pieces_at region l) (pieces_at safe l)).value) c.in-Some.is found)
 
@@ -98,11 +84,9 @@ returns-in-Some-clause-among c =
     let xs = c.args.region.now.pieces.items in
     let ys = c.in_ok-safe.safe.pieces.items in
     let below : l < length p.locs.items = search rules in
-    let in_region : l < length xs = let m = c.requires.many in omega arith in
-    let in_safe : l < length ys = let m = c.in_ok-safe.ensures.region.has_lists.many in omega arith in
-    let first = vars-at n xs l c.index.result.now c.deref.result.now c.deref.ensures.value c.index.ensures in_region c.requires.vars in
-    let second = vars-at n ys l c.index-in-loop-l.result.now c.deref-in-loop-l.result.now c.deref-in-loop-l.ensures.value c.index-in-loop-l.ensures in_safe c.in_ok-safe.ensures.region.has_lists.vars in
-    record { vars = some_if (λ (q : PlainSystem). q.width ≡ n) c.in_ok-piece.piece c.in-Some.piece c.in-Some.is (c.in_ok-piece.ensures.vars n first second); there = below }
+    let r = less-at p xs ys l c.requires c.in_ok-safe.ensures.region.has_lists below c.index.result.now c.index-in-loop-l.result.now c.index.ensures c.index-in-loop-l.ensures
+    c.deref.result.now c.deref-in-loop-l.result.now c.deref.ensures.value c.deref-in-loop-l.ensures.value in
+    record { vars = some_if (λ (q : PlainSystem). q.width ≡ n) c.in_ok-piece.piece c.in-Some.piece c.in-Some.is (c.in_ok-piece.ensures.vars n r.first r.second); there = below }
 
 pub loop-l-preserved : goal.loop-l-preserved
 loop-l-preserved c =
@@ -115,15 +99,11 @@ loop-l-preserved c =
     let region = plain_region xs in
     let safe = plain_region ys in
     let below : l < length p.locs.items = search rules in
-    let in_region : l < length xs = let m = c.requires.many in omega arith in
-    let in_safe : l < length ys = let m = c.in_ok-safe.ensures.region.has_lists.many in omega arith in
-    let first = vars-at n xs l c.index.result.now c.deref.result.now c.deref.ensures.value c.index.ensures in_region c.requires.vars in
-    let second = vars-at n ys l c.index-in-loop-l.result.now c.deref-in-loop-l.result.now c.deref-in-loop-l.ensures.value c.index-in-loop-l.ensures in_safe c.in_ok-safe.ensures.region.has_lists.vars in
-    let same = ap (λ ps. minus frac_arithmetic n ps (lines_of c.deref-in-loop-l.result.now)) (ap lines_of c.deref.ensures.value ∙ lines-at xs l c.index.result.now c.index.ensures in_region)
-    ∙ ap (minus frac_arithmetic n (pieces_at region l)) (ap lines_of c.deref-in-loop-l.ensures.value ∙ lines-at ys l c.index-in-loop-l.result.now c.index-in-loop-l.ensures in_safe) in
+    let r = less-at p xs ys l c.requires c.in_ok-safe.ensures.region.has_lists below c.index.result.now c.index-in-loop-l.result.now c.index.ensures c.index-in-loop-l.ensures
+    c.deref.result.now c.deref-in-loop-l.result.now c.deref.ensures.value c.deref-in-loop-l.ensures.value in
     let in_locs : l < length a.locs = omega (arith, below, length-map p.locs.items plain_location) in
     let x = there_is a.locs l in_locs in
-    let found = c.in_ok-piece.ensures.calculus n first second ∙ ap (λ m. first_of m.value) same in
+    let found = c.in_ok-piece.ensures.calculus n r.first r.second ∙ ap (λ m. first_of m.value) r.same in
     here_none (unsafe_at n safe region) a.locs l x.0 x.1 c.loop-l.invariant
     (piece_none c.in_ok-piece.piece (first_of (minus frac_arithmetic n (pieces_at region l) (pieces_at safe l)).value) c.in_default.is found)
 

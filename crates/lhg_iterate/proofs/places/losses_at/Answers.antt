@@ -10,15 +10,17 @@ use Rattle.lhg_union.specs.Regions.{plain_region}
 use Rattle.lhg_union.proofs.ListFacts.{all_at}
 use Rattle.lhg_plant.specs.OutCalculus.{hit_pieces}
 use Rattle.lhg_plant.specs.Views.{plain_location, plain_plant}
+use Rattle.lhg_plant.proofs.Options.{some_same}
 use Rattle.lhg_jump.specs.HitViews.{plain_hits, HasVars}
 use Rattle.lhg_jump.specs.OutViews.{plain_outs}
 use Rattle.lhg_jump.proofs.Answering.{rest_halts, location-there, location-is}
+use Rattle.lhg_jump.proofs.HitCode.{plain_hits-at}
 use Rattle.lhg_jump.proofs.RangeSteps.{lines-at}
 use Rattle.lhg_loss.specs.Records.{reached_losses}
 use Rattle.lhg_loss.specs.RoundFacts.{AreReached, IsReachedAt}
 use Rattle.lhg_loss.specs.Views.{plain_losses}
 use Rattle.lhg_iterate.proofs.Halting.{ok_then}
-use Rattle.lhg_iterate.proofs.PlaceSteps.{losses-near, losses-rest, reached-at, hits-at, some-same}
+use Rattle.lhg_iterate.proofs.PlaceSteps.{losses-near, losses-rest, reached-at}
 use Rattle.lhg_iterate.proofs.places.losses_at.Goals as goal
 
 pub near_at-requires-clause-there : goal.near_at-requires-clause-there
@@ -80,8 +82,8 @@ returns-clause-losses c = λ place there.
     let near = lines_of c.in_ok-near.near.items in
     let flow = c.deref.result.now in
     let away_is = ap lines_of c.deref-2.ensures.value ∙ lines-at o.away.pieces.items l c.index-away.result.now c.index-away.ensures away_below in
-    let hits_are = ap plain_hits c.deref-3.ensures.value ∙ hits-at o.hits.items l c.index-hits.result.now c.index-hits.ensures hits_below in
-    let flow_is = c.deref.ensures.value ∙ ap (λ x. x.flow) (some-same _ (plain_location here) place (location-there p l here c.requires.there c.index.ensures) there) in
+    let hits_are = ap plain_hits c.deref-3.ensures.value ∙ plain_hits-at o.hits.items l c.index-hits.result.now c.index-hits.ensures hits_below in
+    let flow_is = c.deref.ensures.value ∙ ap (λ x. x.flow) (some_same _ (plain_location here) place (location-there p l here c.requires.there c.index.ensures) there) in
     let rest = losses-rest (plain_plant p) (plain_region c.args.region.now.pieces.items) (plain_outs o) (plain_region c.args.backs.now) s.round s.first l place away hits near flow away_is hits_are c.in_ok-near.ensures.calculus flow_is in
     rest_halts c.losses_from.result _ (reached_losses n s.round l s.first away hits near flow) (λ v. plain_losses v.items) rest
     (subst (λ k. IsHaltedBy c.losses_from.result (reached_losses k s.round l s.first away hits near flow) (λ v. plain_losses v.items)) many c.losses_from.ensures.losses)
@@ -102,8 +104,8 @@ returns-clause-reached c = λ place there.
     let near = lines_of c.in_ok-near.near.items in
     let flow = c.deref.result.now in
     let away_is = ap lines_of c.deref-2.ensures.value ∙ lines-at o.away.pieces.items l c.index-away.result.now c.index-away.ensures away_below in
-    let hits_are = ap plain_hits c.deref-3.ensures.value ∙ hits-at o.hits.items l c.index-hits.result.now c.index-hits.ensures hits_below in
-    let flow_is = c.deref.ensures.value ∙ ap (λ x. x.flow) (some-same _ (plain_location here) place (location-there p l here c.requires.there c.index.ensures) there) in
+    let hits_are = ap plain_hits c.deref-3.ensures.value ∙ plain_hits-at o.hits.items l c.index-hits.result.now c.index-hits.ensures hits_below in
+    let flow_is = c.deref.ensures.value ∙ ap (λ x. x.flow) (some_same _ (plain_location here) place (location-there p l here c.requires.there c.index.ensures) there) in
     let a = plain_plant p in
     let region = plain_region c.args.region.now.pieces.items in
     let kss = plain_region c.args.backs.now in

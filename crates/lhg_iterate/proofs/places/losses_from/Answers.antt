@@ -9,6 +9,7 @@ use Rattle.lhg_row.specs.Members.{all-append}
 use Rattle.lhg_row.specs.Piece.{PlainPiece}
 use Rattle.lhg_row.specs.System.{PlainSystem}
 use Rattle.lhg_motion.specs.ReachCalculus.{reach}
+use Rattle.lhg_motion.specs.ReachCases.{found-polys}
 use Rattle.lhg_plant.specs.OutCalculus.{hit_pieces}
 use Rattle.lhg_union.specs.PolyLists.{lines_of, AllVars}
 use Rattle.lhg_union.proofs.ListFacts.{lines_of-append}
@@ -20,7 +21,7 @@ use Rattle.lhg_loss.specs.RoundFacts.{AreReached}
 use Rattle.lhg_loss.specs.Views.{plain_loss, plain_losses}
 use Rattle.lhg_iterate.specs.Naming.{IsNameable}
 use Rattle.lhg_iterate.proofs.Halting.{on_memory, from_memory, on_ok, ok_memory}
-use Rattle.lhg_iterate.proofs.PlaceSteps.{from-part, from-value, nameable, few-found, hits-fewer, found-polys}
+use Rattle.lhg_iterate.proofs.PlaceSteps.{from-part, from-value, nameable, few-found, hits-fewer}
 use Rattle.lhg_iterate.proofs.RecordSteps.{length-hits, length-found}
 use Rattle.lhg_iterate.proofs.places.losses_from.Goals as goal
 
@@ -127,7 +128,7 @@ returns-clause-reached c =
       rows = c.requires.flow;
     } in
     let fs = plain_founds c.in_ok-reached.reached.found.items in
-    let here : AreReached n held beside flow fs = record { polys = found-polys n fs (c.in_ok-reached.ensures.polys n over); exact = c.in_ok-reached.ensures.points n over; named = c.in_ok-reached.ensures.named n over } in
+    let here : AreReached n held beside flow fs = record { polys = found-polys frac_arithmetic n fs (c.in_ok-reached.ensures.polys n over); exact = c.in_ok-reached.ensures.points n over; named = c.in_ok-reached.ensures.named n over } in
     let of : List PlainPiece → List PlainPiece → Type 0 = λ b x. AreReached n b x flow (reach frac_arithmetic n b x flow).value.found in
     let there : of held beside = subst (AreReached n held beside flow) (ap (λ r. r.found) (c.in_ok-reached.ensures.calculus n over)) here in
     on_ok c.records.result (of bad near) (subst (of bad) (ap lines_of c.deref-2.ensures.value) (subst (λ b. of b beside) (ap lines_of c.deref.ensures.value ∙ c.in_ok-bad.ensures.pieces) there))

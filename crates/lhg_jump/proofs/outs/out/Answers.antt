@@ -79,5 +79,5 @@ returns-clause-points c =
     let a = plain_plant p in
     let xs = c.args.region.now.pieces.items in
     let told : Vec PlainSystem → Type 0 = λ ps. ArePolys frac_arithmetic ps.items in
-    let polys = subst (AllOf told) c.deref.ensures.value c.tell_region.ensures in
+    let polys = subst (AllOf told) c.deref.ensures.value c.tell_lists.ensures in
     subst (IsOutOf a (InRegion a (plain_region xs))) (sym (returns-clause-calculus c)) (out-states a p.proper (plain_region xs) (region_over (length p.vars.items) xs c.requires.vars polys))

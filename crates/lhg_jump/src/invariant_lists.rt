@@ -15,8 +15,10 @@ use lhg_row::copy_rows;
 use lhg_union::push_some;
 use std::alloc::Global;
 
-/// The invariant of each location as a list of at most one piece.
-pub(crate) fn invariants(alloc: Global, plant: &Plant) -> Result<Vec<Vec<Poly<Frac>>>, Halt>
+/// The invariant of each location as a list of at most one piece: it is empty where no state of the location is in the invariant.
+/// It halts for `Wide` only where fractions refuse an operation of the calculus of this call, for `Rows` only where it has a
+/// list of rows past `ROW_LIMIT`, never for `Pieces`, and for `Memory`.
+pub fn invariants(alloc: Global, plant: &Plant) -> Result<Vec<Vec<Poly<Frac>>>, Halt>
     ensures calculus { IsHaltedByRows result (calculus.invariants (plain_plant plant.now)) (λ v. plain_region v.items) }
     ensures lists { IfOk result (λ v. AreListsOf plant.now v.items) }
 {

@@ -5,7 +5,7 @@ use Rattle.lhg_union.specs.Regions.{plain_region}
 use Rattle.lhg_plant.specs.Invariants.{invariant_list}
 use Rattle.lhg_plant.specs.Views.{plain_location, plain_plant}
 use Rattle.lhg_jump.specs.PlantLists.{AreOver}
-use Rattle.lhg_check.proofs.invariants.invariants.Given as goal
+use Rattle.lhg_jump.proofs.invariant_lists.invariants.Given as goal
 
 abbrev pub invariant-loop-location : goal.invariant-loop-location
 invariant-loop-location l =
