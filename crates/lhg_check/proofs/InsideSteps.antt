@@ -26,9 +26,9 @@ use Rattle.lhg_plant.proofs.Options.{there_some}
 use Rattle.lhg_plant.proofs.InvariantPoints.{invariants-at, invariant-points}
 use Rattle.lhg_jump.specs.PlantLists.{AreListsOf, IsRegionOf}
 use Rattle.lhg_ctl.specs.declared.controllers.Controller.{Controller}
-use Rattle.lhg_ctl.specs.Conditions.{IsControllerOf}
+use Rattle.lhg_ctl.specs.Conditions.{IsControllerOf, IsInsideInvariants}
 use Rattle.lhg_ctl.specs.Views.{plain_controller}
-use Rattle.lhg_check.specs.CheckFacts.{IsInsideInvariants, IsCheckable}
+use Rattle.lhg_check.specs.CheckFacts.{IsCheckable}
 use Rattle.lhg_check.specs.Views.{IsChecked}
 
 -- ---- the controller

@@ -20,11 +20,6 @@ use Rattle.lhg_loss.specs.RoundFacts.{IsRegion, AreReached}
 use Rattle.lhg_check.specs.Check.{PlainVerdict, valid, unsafe, bad_guard, escapes}
 
 -- ---- what is checked
--- each piece of the region, and of each guard, lies inside the invariant of its location
-pub record IsInsideInvariants (a : PlainPlant) (c : PlainController) : Type 0 where
-  pub region : (l : ℕ) → AllInside a l (get_or c.region l [])
-  pub guards : (e : ℕ) → IfSome (slice_get a.switches e) (λ w. AllInside a w.from (get_or c.guards e []))
-
 -- the pieces of the region and of each guard are pieces over the plant's variables, inside the invariant of their location; an
 -- uncontrollable switch has none
 pub record IsCheckable (a : PlainPlant) (c : PlainController) : Type 0 where

@@ -2,10 +2,9 @@
 ghost use Rattle.std.specs.Prelude.{IfOk};
 ghost use Rattle.lhg_num.specs.Halting.{IsHaltedBy};
 ghost use Rattle.lhg_plant.specs.Views.{plain_plant};
-ghost use Rattle.lhg_ctl.specs.Conditions.{IsControllerOf};
+ghost use Rattle.lhg_ctl.specs.Conditions.{IsControllerOf, IsInsideInvariants};
 ghost use Rattle.lhg_ctl.specs.Views.{plain_controller};
 ghost use Rattle.lhg_check.specs.Check as calculus;
-ghost use Rattle.lhg_check.specs.CheckFacts.{IsInsideInvariants};
 ghost use Rattle.lhg_check.specs.CheckLaws.{IsExactVerdict};
 ghost use Rattle.lhg_check.specs.Views.{plain_verdict};
 

@@ -26,12 +26,12 @@ use Rattle.lhg_cli.proofs.InputSteps.{of_value}
 pub inside_region : (a : PlainPlant) (c : PlainController) → IsInsideController a c → IsRegionInside a c.region
 inside_region a c h =
     let checkable : IsCheckable a c = record {
-      region_is = record { listed = h.locs; polys = h.region_polys; inside = h.region_inside };
+      region_is = record { listed = h.locs; polys = h.region_polys; inside = h.inside.region };
       guard_polys = h.guard_polys;
-      guards_inside = h.guards_inside;
+      guards_inside = h.inside.guards;
       uncontrollable = h.ctl;
     } in
-    record { over = region_over a c checkable; inside = h.region_inside }
+    record { over = region_over a c checkable; inside = h.inside.region }
 
 -- ---- where the answer is sure
 module _ (input : (PlainPlant × PlainDraft) × PlainLog) (t : IsWithinRun input) (is : IsValid input.0.0 (controller_in input.0)) where

@@ -172,7 +172,9 @@ made_inside a d proper h =
       switches = made-length a (source_at a) (length a.switches) d.guards;
       region_polys = all_lists (AllPolys frac_arithmetic n) lists (λ l. polys_in a l (get_or lists l []) (region l));
       guard_polys = λ e. polys_in a (source_at a e) (get_or gss e []) (guards e);
-      region_inside = λ l. inside_in a l (get_or lists l []) (region l);
-      guards_inside = λ e. by_source a (slice_get a.switches e) (get_or gss e []) (inside_in a (source_at a e) (get_or gss e []) (guards e));
+      inside = record {
+        region = λ l. inside_in a l (get_or lists l []) (region l);
+        guards = λ e. by_source a (slice_get a.switches e) (get_or gss e []) (inside_in a (source_at a e) (get_or gss e []) (guards e));
+      };
       ctl = λ e env. none-made a (source_at a) (length a.switches) e d.guards (apart a e env d.guards h.ctl);
     }

@@ -20,6 +20,11 @@ pub record IsControllerOf (a : PlainPlant) (c : Controller) : Type 0 where
   pub guards : AllOf (λ ps. AllVars (length a.vars) ps.items) c.guards.items
   pub ctl : AreOfController a (plain_region c.guards.items)
 
+-- each piece of the region, and of each guard, lies inside the invariant of its location
+pub record IsInsideInvariants (a : PlainPlant) (c : PlainController) : Type 0 where
+  pub region : (l : ℕ) → AllInside a l (get_or c.region l [])
+  pub guards : (e : ℕ) → IfSome (slice_get a.switches e) (λ w. AllInside a w.from (get_or c.guards e []))
+
 -- the region has a list of pieces per location, which lie inside its invariant, the guards one per switch, which lie inside the invariant
 -- of the location that it leaves, and an uncontrollable switch has no guard
 pub record IsInsideController (a : PlainPlant) (c : PlainController) : Type 0 where
@@ -27,6 +32,5 @@ pub record IsInsideController (a : PlainPlant) (c : PlainController) : Type 0 wh
   pub switches : length c.guards ≡ length a.switches
   pub region_polys : AllOf (AllPolys frac_arithmetic (length a.vars)) c.region
   pub guard_polys : (e : ℕ) → AllPolys frac_arithmetic (length a.vars) (get_or c.guards e [])
-  pub region_inside : (l : ℕ) → AllInside a l (get_or c.region l [])
-  pub guards_inside : (e : ℕ) → IfSome (slice_get a.switches e) (λ w. AllInside a w.from (get_or c.guards e []))
+  pub inside : IsInsideInvariants a c
   pub ctl : AreOfController a c.guards
