@@ -2,7 +2,7 @@ use Rattle.std.proofs.Common.{length, List, sym, ap, subst, arith}
 use Rattle.std.proofs.lemmas.List.{length-map}
 use Rattle.lhg_math.specs.Tests.{AllOf}
 use Rattle.lhg_plant.specs.Plant.{PlainPlant}
-use Rattle.lhg_plant.specs.Views.{plain_plant}
+use Rattle.lhg_plant.specs.Views.{plain_plant, plain_location}
 use Rattle.lhg_ctl.specs.Draft.{PlainDraft}
 use Rattle.lhg_ctl.specs.LogText.{PlainLog}
 use Rattle.lhg_ctl.specs.LogViews.{plain_entry, plain_log}
@@ -16,6 +16,13 @@ use Rattle.lhg_cli.proofs.InputSteps.{value_answer, stop_answer}
 use Rattle.lhg_cli.proofs.LogPlaces.{log_start, log_over, log_few}
 use Rattle.lhg_cli.proofs.RunAnswers.{sure_run}
 use Rattle.lhg_cli.proofs.running.ran.Goals as goal
+
+pub run_written-requires-clause-there : goal.run_written-requires-clause-there
+run_written-requires-clause-there c =
+    let i = c.in-Ok.input in
+    let place = (log_start c.args.bytes.now (plain_plant i.plant) (plain_draft i.draft) (plain_log i.start i.entries.items) c.in-Ok.ensures.ok).loc in
+    let size = length-map i.plant.locs.items plain_location in
+    omega (arith, place, size)
 
 pub run_written-requires-clause-start : goal.run_written-requires-clause-start
 run_written-requires-clause-start c =
