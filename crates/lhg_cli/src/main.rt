@@ -30,18 +30,27 @@ mod words;
 
 use lhg_io::{StdSink, StdSource};
 pub use status::Status;
+use std::alloc::AllocError;
+use std::io::ErrorKind;
 use std::process::ExitCode;
 use std::{env, io};
 pub use top::lhg;
 
+// The words behind the program's name. Where the system has one that is no text, they are none, which the program does not know either.
+fn given_words(rt: &HostRuntime) -> Result<Vec<String>, AllocError> {
+    match env::args(rt) {
+        Ok(args) => args.skip(1).collect(rt.alloc()),
+        Err(error) => match error.kind() {
+            ErrorKind::OutOfMemory => Err(AllocError),
+            _ => Ok(Vec::new(rt.alloc())),
+        },
+    }
+}
+
 fn main(rt: HostRuntime) -> ExitCode {
-    let Ok(args) = env::args(&rt) else {
-        return ExitCode::from(Status::Words.number());
-    };
-    let Ok(words) = args.skip(1).collect(rt.alloc()) else {
+    let Ok(words) = given_words(&rt) else {
         return ExitCode::from(Status::Memory.number());
     };
-    let words: Vec<String> = words;
     let mut source = StdSource::new(rt.reader());
     let mut sink = StdSink::new(io::writer(&rt));
     let status = lhg(rt.alloc(), words.as_slice(), &mut source, &mut sink);
