@@ -1,23 +1,15 @@
 //! Controllers that are checked and written anew, each behind the plant of a thermostat, and those of all reports.
 use crate::Status;
-use crate::tests::{NEVER, PLANTS, run};
-use std::alloc::{AllocError, Global};
+use crate::plant_texts::{THERMOSTAT, THERMOSTAT_CONTROLLER};
+use crate::tests::{PLANTS, run};
 use std::test::Fail;
-
-const THERMOSTAT: &[u8] =
-    b"lhg 1\nvars x\nloc heat\ninv 0 <= x <= 40\nflow 1 <= x <= 2\nsafe 18 <= x <= 22\nloc cool\ninv 0 <= x <= 40\nflow -2 <= x <= -1\nsafe 18 <= x <= 22\nswitch off ctl heat cool keep\nswitch on ctl cool heat keep\nend\n";
 
 const SECOND_VERSION: &[u8] =
     b"controller 2\nrounds 0\npiece heat x >= 18, x <= 22\npiece cool x >= 18, x <= 22\nguard off g1 x >= 18, x <= 22\nguard on g2 x >= 18, x <= 22\nend\n";
 
 // What is asked of controllers, with the answers.
-const CONTROLLERS: [(&str, &[u8], Status, &[u8]); 13] = [
-    (
-        "check",
-        b"controller 1\npiece heat x >= 18, x <= 22\npiece cool x >= 18, x <= 22\nguard off x >= 18, x <= 22\nguard on x >= 18, x <= 22\nend\n",
-        Status::Done,
-        b"valid\n",
-    ),
+const CONTROLLERS: [(&str, &[u8], Status, &[u8]); 12] = [
+    ("check", THERMOSTAT_CONTROLLER, Status::Done, b"valid\n"),
     (
         "check",
         b"controller 1\npiece heat x >= 18, x <= 22\npiece cool x >= 18, x <= 22\nguard on x >= 18, x <= 22\nend\n",
@@ -46,19 +38,13 @@ const CONTROLLERS: [(&str, &[u8], Status, &[u8]); 13] = [
     ("check", SECOND_VERSION, Status::Done, b"valid\n"),
     (
         "check",
-        b"controller 1\npiece heat x >= 1",
-        Status::Text,
-        b"text line 16 NotHere\n",
-    ),
-    (
-        "check",
         b"controller 1\npiece heat 170141183460469231731687303715884105727*x <= 1/3\nend\n",
         Status::Wide,
         b"wide check\n",
     ),
     (
         "migrate",
-        b"controller 1\npiece heat x >= 18, x <= 22\npiece cool x >= 18, x <= 22\nguard off x >= 18, x <= 22\nguard on x >= 18, x <= 22\nend\n",
+        THERMOSTAT_CONTROLLER,
         Status::Done,
         SECOND_VERSION,
     ),
@@ -72,19 +58,12 @@ const CONTROLLERS: [(&str, &[u8], Status, &[u8]); 13] = [
     ("migrate", b"", Status::Text, b"text line 14 NotHere\n"),
 ];
 
-// A plant and what follows it.
-fn joined(alloc: Global, plant: &[u8], rest: &[u8]) -> Result<Vec<u8>, AllocError> {
-    let mut input = plant.to_vec(alloc)?;
-    input.extend_from_slice(rest)?;
-    Ok(input)
-}
-
 #[test]
 fn controllers(rt: HostRuntime) -> Result<(), Fail> {
     let alloc = rt.alloc();
     for (word, controller, status, text) in CONTROLLERS {
-        let input = joined(alloc, THERMOSTAT, controller)?;
-        let (ended, written) = run(alloc, &[word], &input, NEVER, NEVER)?;
+        let input = [THERMOSTAT, controller].concat(alloc)?;
+        let (ended, written) = run(alloc, &[word], &input)?;
         assert_eq!(rt; written.as_slice(), text);
         assert_eq!(rt; ended, status);
     }
@@ -108,9 +87,8 @@ fn reports(rt: HostRuntime) -> Result<(), Fail> {
     for (_, plant, status, report) in PLANTS {
         if status == Status::Done {
             let controller = controller_in(report).ok_or("no controller")?;
-            let mut input = joined(alloc, plant, controller)?;
-            input.extend_from_slice(b"\nend\n")?;
-            let (ended, written) = run(alloc, &["check"], &input, NEVER, NEVER)?;
+            let input = [plant, controller, b"\nend\n"].concat(alloc)?;
+            let (ended, written) = run(alloc, &["check"], &input)?;
             assert_eq!(rt; written.as_slice(), b"valid\n".as_slice());
             assert_eq!(rt; ended, Status::Done);
         }

@@ -8,11 +8,13 @@ mod controller_tests;
 mod explaining;
 #[cfg(test)]
 mod game_tests;
+#[cfg(test)]
+mod hostile_tests;
 mod inputs;
 mod judging;
-#[cfg(test)]
-mod limit_tests;
 mod migrating;
+#[cfg(test)]
+mod plant_texts;
 mod refusing;
 #[cfg(test)]
 mod region_tests;

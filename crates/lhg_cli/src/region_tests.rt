@@ -1,6 +1,7 @@
 //! Regions and guards as points: where the report has several lists of rows for one set, its points are compared.
 ghost use Rattle.std.specs.Prelude.{◌≤◌, length};
 
+use crate::plant_texts::{BEND, EDGE};
 use lhg_iterate::{Solved, solve};
 use lhg_lex::{Lines, TEXT_LIMIT};
 use lhg_num::Frac;
@@ -9,14 +10,6 @@ use lhg_read::read_plant;
 use lhg_row::Point;
 use std::alloc::Global;
 use std::test::Fail;
-
-// The plant flows to the right and may rise or fall on the way.
-const BEND: &[u8] =
-    b"lhg 1\nvars x y\nloc run\ninv 0 <= x <= 4, 0 <= y <= 3\nflow x = 1, -1 <= y <= 1\nsafe x <= 3\nloc rest\ninv 0 <= x <= 4, 0 <= y <= 3\nsafe all\nswitch go ctl run rest 1 <= x <= 2, y <= 2, keep\nend\n";
-
-// (2, 0) alone is unsafe, and the guard is the open edge to it.
-const EDGE: &[u8] =
-    b"lhg 1\nvars x y\nloc run\ninv 0 <= x <= 2, 0 <= y <= 1\nflow x = 1, -1 <= y <= 1\nsafe x < 2\nsafe y > 0\nloc rest\ninv 0 <= x <= 2, 0 <= y <= 1\nsafe all\nswitch go ctl run rest 0 < x < 2, y = 0, keep\nend\n";
 
 // A water level whose pump obeys two time units late.
 const PUMP: &[u8] =

@@ -1,16 +1,24 @@
 //! The program over ends in memory.
+ghost use Rattle.std.specs.Prelude.{◌≤◌};
+
+use crate::plant_texts::{
+    DEPENDENCE, DEPENDENCE_REPORT, NO_END, NOTHING_KEPT_REPORT, ONE_FLOW, OPEN_EDGE, PICKED_RESULT,
+    PLAIN, RUN_KEPT_REPORT, RUN_LOST_REPORT, STEP, THERMOSTAT, THERMOSTAT_REPORT, TIE_OPEN,
+};
 use crate::{Status, lhg};
 use lhg_io::{MemSink, MemSource};
 use std::alloc::{AllocError, Global};
 use std::test::Fail;
 
-const PLAIN: &[u8] = b"lhg 1\nvars x\nloc only\ninv 0 <= x <= 8\nflow still\nsafe x <= 8\nend\n";
-
 const USAGE: &[u8] = b"usage: lhg synth [N] | check | run | explain [N] | gen K | migrate\n";
 
 pub(crate) const SYNTH: &[&str] = &["synth"];
 
+// The number of a call that no run makes.
 pub(crate) const NEVER: u32 = u32::MAX;
+
+// More bytes than any answer has.
+pub(crate) const AMPLE: usize = 524_288;
 
 fn all_words(alloc: Global, words: &[&str]) -> Result<Vec<String>, AllocError> {
     let mut all = Vec::new(alloc);
@@ -20,28 +28,51 @@ fn all_words(alloc: Global, words: &[&str]) -> Result<Vec<String>, AllocError> {
     Ok(all)
 }
 
-// The status and what is written, where the call of the source and that of the sink with these numbers fail.
-pub(crate) fn run(
+// A source over the bytes, which gives at most so many a call, and whose call with this number fails.
+pub(crate) fn source_over(
+    alloc: Global,
+    input: &[u8],
+    step: usize,
+    fails: u32,
+) -> Result<MemSource, AllocError>
+    requires { 1 ≤ step }
+{
+    let fails = [fails].to_vec(alloc)?;
+    Ok(MemSource::new(input.to_vec(alloc)?, step, fails))
+}
+
+// A sink for so many bytes, which takes at most so many a call, and whose call with this number fails.
+pub(crate) fn sink_for(alloc: Global, room: usize, step: usize, fails: u32) -> Result<MemSink, Fail>
+    requires { 1 ≤ step }
+{
+    let fails = [fails].to_vec(alloc)?;
+    Ok(MemSink::new(alloc, room, step, fails)?)
+}
+
+// The status and what is written, where these are the ends.
+pub(crate) fn run_over(
     alloc: Global,
     words: &[&str],
-    input: &[u8],
-    read_fails: u32,
-    write_fails: u32,
+    mut source: MemSource,
+    mut sink: MemSink,
 ) -> Result<(Status, Vec<u8>), Fail> {
     let words = all_words(alloc, words)?;
-    let read_fails = [read_fails].to_vec(alloc)?;
-    let write_fails = [write_fails].to_vec(alloc)?;
-    let mut source = MemSource::new(input.to_vec(alloc)?, 4096, read_fails);
-    let mut sink = MemSink::new(alloc, 524_288, 10, write_fails)?;
     let status = lhg(alloc, &words, &mut source, &mut sink);
     Ok((status, sink.held().to_vec(alloc)?))
+}
+
+// The status and what is written, where neither end fails.
+pub(crate) fn run(alloc: Global, words: &[&str], input: &[u8]) -> Result<(Status, Vec<u8>), Fail> {
+    let source = source_over(alloc, input, 4096, NEVER)?;
+    let sink = sink_for(alloc, AMPLE, 10, NEVER)?;
+    run_over(alloc, words, source, sink)
 }
 
 // What is asked of plants, with the answers.
 pub(crate) const PLANTS: [(&[&str], &[u8], Status, &[u8]); 28] = [
     (
         &["synth"],
-        b"lhg 1\nvars x\nloc only\ninv 0 <= x <= 8\nflow still\nsafe x <= 8\nend\n",
+        PLAIN,
         Status::Done,
         b"report 1\nrounds 1\ncontroller 1\npiece only x >= 0, x <= 8\nend\nend\n",
     ),
@@ -49,7 +80,7 @@ pub(crate) const PLANTS: [(&[&str], &[u8], Status, &[u8]); 28] = [
         &["synth"],
         b"lhg 1\nvars x\nloc only\ninv 5 <= x <= 9\nflow still\nsafe x <= 4\nend\n",
         Status::Done,
-        b"report 1\nrounds 1\ncontroller 1\nend\nend\n",
+        NOTHING_KEPT_REPORT,
     ),
     (
         &["synth"],
@@ -71,37 +102,17 @@ pub(crate) const PLANTS: [(&[&str], &[u8], Status, &[u8]); 28] = [
     ),
     (
         &["synth"],
-        b"lhg 1\nvars x\nloc only\ninv 0 <= x <= 10\nflow x = 1\nsafe x <= 8\nend\n",
+        ONE_FLOW,
         Status::Done,
         b"report 1\nrounds 2\ncontroller 1\nend\nloss 1 round 1 only leave x >= 8, x <= 8\nloss 2 round 1 only flow 1 x >= 0, x < 8\nend\n",
     ),
-    (
-        &["synth"],
-        b"lhg 1\nvars x\nloc heat\ninv 0 <= x <= 40\nflow 1 <= x <= 2\nsafe 18 <= x <= 22\nloc cool\ninv 0 <= x <= 40\nflow -2 <= x <= -1\nsafe 18 <= x <= 22\nswitch off ctl heat cool keep\nswitch on ctl cool heat keep\nend\n",
-        Status::Done,
-        b"report 1\nrounds 1\ncontroller 1\npiece heat x >= 18, x <= 22\npiece cool x >= 18, x <= 22\nguard off x >= 18, x <= 22\nguard on x >= 18, x <= 22\nend\nend\n",
-    ),
-    (
-        &["synth", "1"],
-        b"lhg 1\nvars x\nloc heat\ninv 0 <= x <= 40\nflow 1 <= x <= 2\nsafe 18 <= x <= 22\nloc cool\ninv 0 <= x <= 40\nflow -2 <= x <= -1\nsafe 18 <= x <= 22\nswitch off ctl heat cool keep\nswitch on ctl cool heat keep\nend\n",
-        Status::Done,
-        b"report 1\nrounds 1\ncontroller 1\npiece heat x >= 18, x <= 22\npiece cool x >= 18, x <= 22\nguard off x >= 18, x <= 22\nguard on x >= 18, x <= 22\nend\nend\n",
-    ),
-    (
-        &["synth"],
-        b"lhg 1\nvars x\nloc heat\ninv 0 <= x <= 40\nflow 1 <= x <= 2\nsafe 18 <= x <= 22\nloc cool\ninv 0 <= x <= 40\nflow -2 <= x <= -1\nsafe 18 <= x <= 22\nswitch off ctl heat cool x >= 23, keep\nswitch on ctl cool heat keep\nend\n",
-        Status::Done,
-        b"report 1\nrounds 3\ncontroller 1\nend\nloss 1 round 1 heat leave x >= 22, x <= 22\nloss 2 round 1 heat flow 1 x >= 18, x < 22\nloss 3 round 2 cool leave x >= 18, x <= 18\nloss 4 round 2 cool flow 3 x > 18, x <= 22\nend\n",
-    ),
-    (
-        &["synth", "3"],
-        b"lhg 1\nvars x\nloc heat\ninv 0 <= x <= 40\nflow 1 <= x <= 2\nsafe 18 <= x <= 22\nloc cool\ninv 0 <= x <= 40\nflow -2 <= x <= -1\nsafe 18 <= x <= 22\nswitch off ctl heat cool x >= 23, keep\nswitch on ctl cool heat keep\nend\n",
-        Status::Done,
-        b"report 1\nrounds 3\ncontroller 1\nend\nloss 1 round 1 heat leave x >= 22, x <= 22\nloss 2 round 1 heat flow 1 x >= 18, x < 22\nloss 3 round 2 cool leave x >= 18, x <= 18\nloss 4 round 2 cool flow 3 x > 18, x <= 22\nend\n",
-    ),
+    (&["synth"], THERMOSTAT, Status::Done, THERMOSTAT_REPORT),
+    (&["synth", "1"], THERMOSTAT, Status::Done, THERMOSTAT_REPORT),
+    (&["synth"], DEPENDENCE, Status::Done, DEPENDENCE_REPORT),
+    (&["synth", "3"], DEPENDENCE, Status::Done, DEPENDENCE_REPORT),
     (
         &["synth", "2"],
-        b"lhg 1\nvars x\nloc heat\ninv 0 <= x <= 40\nflow 1 <= x <= 2\nsafe 18 <= x <= 22\nloc cool\ninv 0 <= x <= 40\nflow -2 <= x <= -1\nsafe 18 <= x <= 22\nswitch off ctl heat cool x >= 23, keep\nswitch on ctl cool heat keep\nend\n",
+        DEPENDENCE,
         Status::Spent,
         b"spent 2\nstate cool x = 18\n",
     ),
@@ -113,13 +124,13 @@ pub(crate) const PLANTS: [(&[&str], &[u8], Status, &[u8]); 28] = [
     ),
     (
         &["synth"],
-        b"lhg 1\nvars x\nloc run\ninv 0 <= x <= 10\nflow x = 1\nsafe x < 8\nloc rest\ninv 0 <= x <= 10\nsafe all\nswitch go ctl run rest x >= 7, keep\nend\n",
+        OPEN_EDGE,
         Status::Done,
         b"report 1\nrounds 1\ncontroller 1\npiece run x >= 0, x < 8\npiece rest x >= 0, x <= 10\nguard go x >= 7, x < 8\nend\nend\n",
     ),
     (
         &["synth"],
-        b"lhg 1\nvars x\nloc run\ninv 0 <= x <= 10\nflow x = 1\nsafe all\nloc bad\ninv 0 <= x <= 10\nloc rest\ninv 0 <= x <= 10\nsafe all\nswitch hit env run bad x > 5, keep\nswitch go ctl run rest x > 5, keep\nend\n",
+        TIE_OPEN,
         Status::Done,
         b"report 1\nrounds 2\ncontroller 1\npiece rest x >= 0, x <= 10\nend\nloss 1 round 1 run env hit x > 5, x <= 10\nloss 2 round 1 run flow 1 x >= 5, x <= 5\nloss 3 round 1 run flow 2 x >= 0, x < 5\nend\n",
     ),
@@ -133,50 +144,40 @@ pub(crate) const PLANTS: [(&[&str], &[u8], Status, &[u8]); 28] = [
         &["synth"],
         b"lhg 1\nvars x\nloc run\ninv 0 <= x <= 10\nflow x = 1\nsafe x <= 8\nloc rest\ninv 0 <= x <= 10\nsafe x <= 5\nswitch go ctl run rest all\nend\n",
         Status::Done,
-        b"report 1\nrounds 2\ncontroller 1\npiece rest x >= 0, x <= 5\nend\nloss 1 round 1 run leave x >= 8, x <= 8\nloss 2 round 1 run flow 1 x >= 0, x < 8\nend\n",
+        RUN_LOST_REPORT,
     ),
     (
         &["synth"],
         b"lhg 1\nvars x\nloc run\ninv 0 <= x <= 10\nflow x = 1\nsafe x <= 8\nloc rest\ninv 0 <= x <= 10\nsafe x <= 5\nswitch go ctl run rest x' <= 5\nend\n",
         Status::Done,
-        b"report 1\nrounds 1\ncontroller 1\npiece run x >= 0, x <= 8\npiece rest x >= 0, x <= 5\nguard go x >= 0, x <= 8\nend\nend\n",
+        RUN_KEPT_REPORT,
     ),
-    (
-        &["synth"],
-        b"lhg 1\nvars x\nloc run\ninv 0 <= x <= 10\nflow x = 1\nsafe x <= 8\nloc rest\ninv 0 <= x <= 10\nsafe x <= 5\nswitch go pick run rest all\nend\n",
-        Status::Done,
-        b"report 1\nrounds 1\ncontroller 1\npiece run x >= 0, x <= 8\npiece rest x >= 0, x <= 5\nguard go x >= 0, x <= 8\nend\nend\n",
-    ),
+    (&["synth"], PICKED_RESULT, Status::Done, RUN_KEPT_REPORT),
     (
         &["synth"],
         b"lhg 1\nvars x\nloc run\ninv 0 <= x <= 10\nflow x = 1\nsafe x <= 8\nloc rest\ninv 0 <= x <= 10\nsafe x <= 5\nswitch go pick run rest x' >= 6\nend\n",
         Status::Done,
-        b"report 1\nrounds 2\ncontroller 1\npiece rest x >= 0, x <= 5\nend\nloss 1 round 1 run leave x >= 8, x <= 8\nloss 2 round 1 run flow 1 x >= 0, x < 8\nend\n",
+        RUN_LOST_REPORT,
     ),
     (
         &["synth"],
-        b"lhg 1\nvars x\nloc a\ninv 0 <= x <= 10\nsafe all\nloc b\ninv 0 <= x <= 10\nsafe x <= 5\nswitch e env a b keep\nend\n",
+        STEP,
         Status::Done,
         b"report 1\nrounds 2\ncontroller 1\npiece a x >= 0, x <= 5\npiece b x >= 0, x <= 5\nend\nloss 1 round 1 a env e x > 5, x <= 10\nend\n",
     ),
     (
         &["synth", "1"],
-        b"lhg 1\nvars x\nloc a\ninv 0 <= x <= 10\nsafe all\nloc b\ninv 0 <= x <= 10\nsafe x <= 5\nswitch e env a b keep\nend\n",
+        STEP,
         Status::Spent,
         b"spent 1\nstate a x = 10\n",
     ),
     (
         &["synth", "64"],
-        b"lhg 1\nvars x\nloc grow\ninv x >= 0\nsafe x <= 1\nswitch double env grow grow x' = 2*x\nend\n",
+        NO_END,
         Status::Spent,
         b"spent 64\nstate grow x = 1/9223372036854775808\n",
     ),
-    (
-        &["synth", "200"],
-        b"lhg 1\nvars x\nloc grow\ninv x >= 0\nsafe x <= 1\nswitch double env grow grow x' = 2*x\nend\n",
-        Status::Wide,
-        b"wide round 127\n",
-    ),
+    (&["synth", "200"], NO_END, Status::Wide, b"wide round 127\n"),
     (
         &["synth"],
         b"lhg 1\nvars x\nloc void\ninv x < 0, x > 0\nsafe all\nloc none\ninv 0 <= x <= 10\nloc held\ninv 0 <= x <= 10\nflow x < 0, x > 0\nsafe x <= 8\nend\n",
@@ -187,19 +188,19 @@ pub(crate) const PLANTS: [(&[&str], &[u8], Status, &[u8]); 28] = [
         &["synth"],
         b"lhg 1\nvars x\nloc void\ninv x < 0, x > 0\nsafe 170141183460469231731687303715884105727*x <= 1/3\nend\n",
         Status::Done,
-        b"report 1\nrounds 1\ncontroller 1\nend\nend\n",
+        NOTHING_KEPT_REPORT,
     ),
     (
         &["synth"],
         b"lhg 1\r\nvars\tx\t# degrees\r\n\r\nloc heat\r\ninv 0 <= x <= 40\r\nflow 1.00 <= x <= 4/2\r\nsafe 18 <= x <= 22\r\n\t\r\nloc cool\r\ninv 0 <= x & x <= 40.0\r\nflow -2 <= x' <= -1\r\nsafe 18 <= x <= 22\r\nswitch off ctl heat cool keep\r\nswitch on ctl cool heat keep\r\nend\r\n",
         Status::Done,
-        b"report 1\nrounds 1\ncontroller 1\npiece heat x >= 18, x <= 22\npiece cool x >= 18, x <= 22\nguard off x >= 18, x <= 22\nguard on x >= 18, x <= 22\nend\nend\n",
+        THERMOSTAT_REPORT,
     ),
     (
         &["synth"],
         b"lhg 1\nvars x\nloc heat\ninv 0 <= x <= 170141183460469231731687303715884105727\nflow 1 <= x <= 2\nsafe 18 <= x <= 22\nloc cool\ninv 0 <= x <= 40\nflow -2 <= x <= -1\nsafe 18 <= x <= 22\nswitch off ctl heat cool keep\nswitch on ctl cool heat keep\nend\n",
         Status::Done,
-        b"report 1\nrounds 1\ncontroller 1\npiece heat x >= 18, x <= 22\npiece cool x >= 18, x <= 22\nguard off x >= 18, x <= 22\nguard on x >= 18, x <= 22\nend\nend\n",
+        THERMOSTAT_REPORT,
     ),
     (
         &["synth"],
@@ -265,7 +266,7 @@ const TEXTS: [(&[&str], &[u8], Status, &[u8]); 9] = [
 #[test]
 fn plants(rt: HostRuntime) -> Result<(), Fail> {
     for (words, input, status, text) in PLANTS {
-        let (ended, written) = run(rt.alloc(), words, input, NEVER, NEVER)?;
+        let (ended, written) = run(rt.alloc(), words, input)?;
         assert_eq!(rt; ended, status);
         assert_eq!(rt; written.as_slice(), text);
     }
@@ -275,7 +276,7 @@ fn plants(rt: HostRuntime) -> Result<(), Fail> {
 #[test]
 fn texts(rt: HostRuntime) -> Result<(), Fail> {
     for (words, input, status, text) in TEXTS {
-        let (ended, written) = run(rt.alloc(), words, input, NEVER, NEVER)?;
+        let (ended, written) = run(rt.alloc(), words, input)?;
         assert_eq!(rt; ended, status);
         assert_eq!(rt; written.as_slice(), text);
     }
@@ -301,7 +302,9 @@ const GENERATED: [(&[&str], &[u8]); 3] = [
 #[test]
 fn generated(rt: HostRuntime) -> Result<(), Fail> {
     for (words, text) in GENERATED {
-        let (ended, written) = run(rt.alloc(), words, b"", 1, NEVER)?;
+        let source = source_over(rt.alloc(), b"", 4096, 1)?;
+        let sink = sink_for(rt.alloc(), AMPLE, 10, NEVER)?;
+        let (ended, written) = run_over(rt.alloc(), words, source, sink)?;
         assert_eq!(rt; ended, Status::Done);
         assert_eq!(rt; written.as_slice(), text);
     }
@@ -331,7 +334,7 @@ const OTHER_WORDS: [&[&str]; 17] = [
 #[test]
 fn words(rt: HostRuntime) -> Result<(), Fail> {
     for words in OTHER_WORDS {
-        let (ended, written) = run(rt.alloc(), words, PLAIN, NEVER, NEVER)?;
+        let (ended, written) = run(rt.alloc(), words, PLAIN)?;
         assert_eq!(rt; ended, Status::Words);
         assert_eq!(rt; written.as_slice(), USAGE);
     }
@@ -340,10 +343,14 @@ fn words(rt: HostRuntime) -> Result<(), Fail> {
 
 #[test]
 fn faults(rt: HostRuntime) -> Result<(), Fail> {
-    let (ended, written) = run(rt.alloc(), SYNTH, PLAIN, 2, NEVER)?;
+    let source = source_over(rt.alloc(), PLAIN, 4096, 2)?;
+    let sink = sink_for(rt.alloc(), AMPLE, 10, NEVER)?;
+    let (ended, written) = run_over(rt.alloc(), SYNTH, source, sink)?;
     assert_eq!(rt; ended, Status::Read);
     assert_eq!(rt; written.as_slice(), b"".as_slice());
-    let (ended, written) = run(rt.alloc(), SYNTH, PLAIN, NEVER, 2)?;
+    let source = source_over(rt.alloc(), PLAIN, 4096, NEVER)?;
+    let sink = sink_for(rt.alloc(), AMPLE, 10, 2)?;
+    let (ended, written) = run_over(rt.alloc(), SYNTH, source, sink)?;
     assert_eq!(rt; ended, Status::Write);
     assert_eq!(rt; written.as_slice(), b"report 1\nr".as_slice());
     Ok(())
@@ -352,7 +359,7 @@ fn faults(rt: HostRuntime) -> Result<(), Fail> {
 #[test]
 fn too_long(rt: HostRuntime) -> Result<(), Fail> {
     let input = vec![in rt.alloc(); b'#'; 1_048_577]?;
-    let (ended, written) = run(rt.alloc(), SYNTH, &input, NEVER, NEVER)?;
+    let (ended, written) = run(rt.alloc(), SYNTH, &input)?;
     assert_eq!(rt; ended, Status::Text);
     assert_eq!(rt; written.as_slice(), b"text line 0 TooLong\n".as_slice());
     Ok(())
