@@ -3,6 +3,7 @@ use Rattle.std.proofs.Common.{◌≡◌, ◌<◌, ℕ, List, [], ◌∷◌, leng
 use Rattle.std.proofs.lemmas.Bool.{true≢false}
 use Rattle.lhg_math.specs.Tests.{by_bool}
 use Rattle.std.specs.List.{list_all}
+use Rattle.std.proofs.Math.Bool.{or-false}
 use Rattle.lhg_lex.specs.Word.{is_digit, begins_word, continues_word}
 use Rattle.lhg_lex.specs.Digits.{is_run}
 use Rattle.lhg_lex.specs.Literal.{before, is_number, number_of}
@@ -10,11 +11,6 @@ use Rattle.lhg_lex.specs.Token.{is_token, is_signs, said, number_said, signs_sai
 use Rattle.lhg_lex.specs.PlainToken.{PlainToken, word}
 use Rattle.lhg_lex.proofs.Fronts.{suc_is}
 use Rattle.lhg_lex.proofs.Bytes.{word_not_digit, digit_not_word, word_not_sign, word_not_pair, digit_not_sign, digit_not_pair}
-
--- a test or nothing
-or_false : (t : Bool) → (t || false) ≡ t
-or_false true = refl
-or_false false = refl
 
 -- no digits stand before a mark
 no_run : (mark b : ℕ) (w : List ℕ) → is_digit b ≡ false → is_run (before mark (b ∷ w)) ≡ false
@@ -38,14 +34,14 @@ pub word_token : (b : ℕ) (w : List ℕ) → begins_word b ≡ true → is_toke
 word_token b w h =
     let n = no_number b w (word_not_digit b h) in
     let s = signs_from b w (word_not_sign b h) (λ c. word_not_pair b c h) in
-    rw (n, s, h) (or_false (list_all continues_word w))
+    rw (n, s, h) (or-false (list_all continues_word w))
 
 -- bytes that begin with a digit are a token where they are a number
 pub number_token : (b : ℕ) (w : List ℕ) → is_digit b ≡ true → is_token (b ∷ w) ≡ is_number (b ∷ w)
 number_token b w h =
     let l = digit_not_word b h in
     let s = signs_from b w (digit_not_sign b h) (λ c. digit_not_pair b c h) in
-    rw (s, l) (or_false (is_number (b ∷ w)))
+    rw (s, l) (or-false (is_number (b ∷ w)))
 
 -- other bytes are a token where they are signs
 pub signs_token : (b : ℕ) (w : List ℕ) → begins_word b ≡ false → is_digit b ≡ false → is_token (b ∷ w) ≡ is_signs (b ∷ w)

@@ -8,6 +8,7 @@ pub mod Integers
 pub mod Interpolate
 pub mod Inverses
 pub mod Laws
+pub mod ListFacts
 pub mod Lowest
 pub mod Number
 pub mod NumberCode

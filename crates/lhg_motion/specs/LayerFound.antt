@@ -4,6 +4,7 @@ use Rattle.std.proofs.Common.{refl, inl}
 use Rattle.lhg_math.specs.Tests.{AllOf}
 use Rattle.lhg_num.specs.Arithmetic.{Arithmetic, IsLawful}
 use Rattle.lhg_num.specs.Marked.{walk}
+use Rattle.lhg_math.specs.ListFacts.{all-both, all-map}
 use Rattle.lhg_row.specs.Row.{PlainPoint}
 use Rattle.lhg_row.specs.Piece.{PlainPiece, InSome}
 use Rattle.lhg_row.specs.Members.{SomeOf}
@@ -15,7 +16,7 @@ use Rattle.lhg_motion.specs.Reach.{HasStep}
 use Rattle.lhg_motion.specs.Found.{PlainFound, pieces_of}
 use Rattle.lhg_motion.specs.ReachCalculus.{Placed, numbered, attempt, through_ways, from_near, layer_of}
 use Rattle.lhg_row.specs.SomeLists.{some_out}
-use Rattle.lhg_motion.specs.WalkLaws.{HasWalked, HasStepped, walked, StandsAt, numbered_stand, numbered-all, all-numbered, all-both, all-map, all_at, all_members}
+use Rattle.lhg_motion.specs.WalkLaws.{HasWalked, HasStepped, walked, StandsAt, numbered_stand, numbered-all, all-numbered, all_at, all_members}
 use Rattle.lhg_motion.specs.AttemptLaws.{AreNew, HaveGrown, IsCoveredBy, known_grow, attempted}
 
 module _ (a : Arithmetic) (n : ℕ) (laws : IsLawful a) (exact : CrossIsExact a n) (near ways known : List PlainPiece) (flow : PlainPiece) (layer : ℕ)

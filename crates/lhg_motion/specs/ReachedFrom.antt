@@ -4,6 +4,7 @@ use Rattle.std.proofs.Common.{sym, ap, ◌∙◌, inl, inr, arith, subst, append
 use Rattle.std.proofs.lemmas.List.{map-append, length-append, get_or_append_left}
 use Rattle.lhg_math.specs.Tests.{AllOf}
 use Rattle.lhg_num.specs.Arithmetic.{Arithmetic}
+use Rattle.lhg_math.specs.ListFacts.{all-map}
 use Rattle.lhg_row.specs.Row.{PlainPoint}
 use Rattle.lhg_row.specs.Piece.{PlainPiece, InPiece, InSome}
 use Rattle.lhg_row.specs.Members.{SomeOf, all-append}
@@ -15,7 +16,6 @@ use Rattle.lhg_motion.specs.Found.{PlainFound, PlainReached, pieces_of, NamesCro
 use Rattle.lhg_motion.specs.Reached.{all_found, AreNumbered, IsInside, EachInside, EachPoly}
 use Rattle.lhg_motion.specs.ReachCalculus.{with_layer}
 use Rattle.lhg_row.specs.SomeLists.{some_map, some_at}
-use Rattle.lhg_motion.specs.WalkLaws.{all-map}
 use Rattle.lhg_motion.specs.AttemptLaws.{IsFound, HasNewPoint}
 use Rattle.lhg_motion.specs.LayerFound.{IsLayerFound}
 

@@ -8,6 +8,8 @@ use Rattle.lhg_num.specs.Marked.{Marked, walk}
 use Rattle.lhg_row.specs.Piece.{PlainPiece}
 use Rattle.lhg_row.specs.Members.{SomeOf, all_some}
 use Rattle.lhg_motion.specs.ReachCalculus.{Placed, numbered}
+use Rattle.lhg_math.specs.ListFacts.{all-map, all-both}
+pub use Rattle.lhg_math.specs.ListFacts.{all-map, all-both}
 
 -- from state s to state t: t is sound, has grown from s, and has what each member leaves
 pub record HasWalked {S A : Type 0} (P : S → Type 0) (G : S → S → Type 0) (Q : A → S → Type 0) (s : S) (xs : List A) (t : S) : Type 0 where
@@ -62,16 +64,6 @@ numbered-all P k (p ∷ ps) h = (h.0, numbered-all P (suc k) ps h.1)
 pub all-numbered : (P : PlainPiece → Type 0) (k : ℕ) (ps : List PlainPiece) → AllOf (λ p. P p.piece) (numbered k ps) → AllOf P ps
 all-numbered P k [] h = tt
 all-numbered P k (p ∷ ps) h = (h.0, all-numbered P (suc k) ps h.1)
-
--- two facts of each member
-pub all-both : {A : Type 0} (P Q R : A → Type 0) → ((x : A) → P x → Q x → R x) → (xs : List A) → AllOf P xs → AllOf Q xs → AllOf R xs
-all-both P Q R f [] h k = tt
-all-both P Q R f (x ∷ xs) h k = (f x h.0 k.0, all-both P Q R f xs h.1 k.1)
-
--- one fact of each member gives another
-pub all-map : {A : Type 0} (P Q : A → Type 0) → ((x : A) → P x → Q x) → (xs : List A) → AllOf P xs → AllOf Q xs
-all-map P Q f [] h = tt
-all-map P Q f (x ∷ xs) h = (f x h.0, all-map P Q f xs h.1)
 
 -- what holds of all members holds of one of them
 pub all_at : {A : Type 0} (P : A → Type 0) (x : A) (xs : List A) → AllOf P xs → SomeOf (λ y. y ≡ x) xs → P x

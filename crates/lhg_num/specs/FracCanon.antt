@@ -9,19 +9,11 @@ use Rattle.lhg_num.specs.Arithmetic.{IsMultiple, multiple_self}
 use Rattle.lhg_math.specs.Signs.{size_of, is_nought, lead}
 use Rattle.lhg_math.specs.SignLaws.{nought_is, size_above, is_nought-scaled, size_of-scaled, lead-scaled}
 use Rattle.lhg_math.specs.Tests.{by_bool}
+use Rattle.lhg_math.specs.Quotients.{map-quot, map_mul, inverse_positive, inverse_scaled}
 
 -- each entry divided by the size of the first entry that is not 0; a row of zeros stays
 abbrev pub canon_frac : List Number → List Number
 canon_frac row = cond (is_nought (lead row)) row (map (λ x. quot x (size_of (lead row))) row)
-
--- to divide by a number is to multiply by its inverse
-map-quot : (s : Number) (xs : List Number) → map (λ x. quot x s) xs ≡ map (λ x. mul (inverse s) x) xs
-map-quot s [] = refl
-map-quot s (x ∷ xs) = ap (λ y. y ∷ map (λ z. quot z s) xs) (quot-is x s ∙ mul_comm x (inverse s)) ∙ ap (λ ys. mul (inverse s) x ∷ ys) (map-quot s xs)
-
--- the inverse of a positive number is positive
-inverse_positive : (x : Number) → lt nought x ≡ true → lt nought (inverse x) ≡ true
-inverse_positive x h = sym (lt-mul x nought (inverse x) h) ∙ ap (λ w. lt w (mul x (inverse x))) (mul-nought x) ∙ ap (λ w. lt nought w) (mul-inverse x (abs_pos_of_lt x h)) ∙ nought_unit
 
 -- a scaled row is a positive multiple
 pub canon_multiple : (row : List Number) → IsMultiple row (canon_frac row)
@@ -39,15 +31,6 @@ all_nought k (x ∷ xs) h =
     ap (λ y. y ∷ map (λ z. mul k z) xs) (ap (λ w. mul k w) (nought_is x e) ∙ mul-nought k ∙ sym (nought_is x e)) ∙ ap (λ ys. x ∷ ys) (all_nought k xs t))
     (λ e. let t : is_nought x ≡ true = rw e at h in let z : true ≡ false = sym t ∙ e in cc)
 
--- a factor of the divisor comes out of its inverse
-inverse_scaled : (k s : Number) → lt nought k ≡ true → lt nought s ≡ true → mul (inverse (mul k s)) k ≡ inverse s
-inverse_scaled k s h p =
-    let a = inverse (mul k s) in
-    let one : mul (mul k s) a ≡ unit = mul-inverse (mul k s) (abs_pos_of_lt _ (mul_positive k s h p)) in
-    let two : mul s (inverse s) ≡ unit = mul-inverse s (abs_pos_of_lt s p) in
-    let three : mul (mul a k) s ≡ unit = mul_assoc a k s ∙ mul_comm a (mul k s) ∙ one in
-    sym (mul-unit (mul a k)) ∙ ap (λ w. mul (mul a k) w) (sym two) ∙ sym (mul_assoc (mul a k) s (inverse s)) ∙ ap (λ w. mul w (inverse s)) three ∙ mul_comm unit (inverse s) ∙ mul-unit (inverse s)
-
 -- a factor of the entries and of the divisor falls away
 map_scaled : (a b k : Number) (xs : List Number) → mul a k ≡ b → map (λ x. mul a x) (map (λ x. mul k x) xs) ≡ map (λ x. mul b x) xs
 map_scaled a b k [] e = refl
@@ -55,7 +38,7 @@ map_scaled a b k (x ∷ xs) e = ap (λ y. y ∷ map (λ z. mul a z) (map (λ z. 
 
 -- a factor of the entries and of the divisor falls away
 quot_scaled : (k s : Number) (xs : List Number) → lt nought k ≡ true → lt nought s ≡ true → map (λ x. quot x (mul k s)) (map (λ x. mul k x) xs) ≡ map (λ x. quot x s) xs
-quot_scaled k s xs h p = map-quot (mul k s) (map (λ x. mul k x) xs) ∙ map_scaled (inverse (mul k s)) (inverse s) k xs (inverse_scaled k s h p) ∙ sym (map-quot s xs)
+quot_scaled k s xs h p = map-quot (mul k s) (map (λ x. mul k x) xs) ∙ map_mul (inverse (mul k s)) k (inverse s) xs (inverse_scaled k s h p) ∙ sym (map-quot s xs)
 
 -- all positive multiples of a row are scaled to the same row
 pub canon_same : (old new : List Number) → IsMultiple old new → canon_frac new ≡ canon_frac old

@@ -1,3 +1,4 @@
+pub mod AnswerLaws
 pub mod Arithmetic
 pub mod Dividing
 pub mod FracArithmetic
@@ -8,5 +9,6 @@ pub mod Laws
 pub mod Limits
 pub mod Marked
 pub mod MarkedLaws
+pub mod PartLaws
 pub mod Parts
 pub mod Stored

@@ -1,7 +1,7 @@
 // What callers may rest on: the laws of fractions, of scaling, of marks and of halts.
 ghost use Rattle.lhg_num.specs.Arithmetic.{IsLawful};
 ghost use Rattle.lhg_num.specs.FracArithmetic.{frac_arithmetic};
-ghost use Rattle.lhg_num.specs.Laws.{ScaledLaws, MarkedLaws, HaltLaws};
+ghost use Rattle.lhg_num.specs.Laws.{ScaledLaws, MarkedLaws, HaltLaws, PartLaws, AnswerLaws};
 
 /// Fractions keep the laws of a number type.
 pub fn law_frac()
@@ -16,6 +16,16 @@ pub fn law_scaled()
 /// Values with marks, step by step.
 pub fn law_marked()
     ensures { MarkedLaws }
+{}
+
+/// Marks of parts, of other values and of walks.
+pub fn law_parts()
+    ensures { PartLaws }
+{}
+
+/// What is known of an answer, whatever it may halt for.
+pub fn law_answers()
+    ensures { AnswerLaws }
 {}
 
 /// A halt is handed on by its mark.

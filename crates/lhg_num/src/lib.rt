@@ -6,6 +6,7 @@ mod fraction;
 pub mod laws;
 mod number_type;
 mod parts;
+mod quotients;
 mod refusals;
 mod scaling;
 #[cfg(test)]
@@ -14,4 +15,5 @@ mod tests;
 pub use divisors::gcd;
 pub use fraction::Frac;
 pub use number_type::Scalar;
+pub use quotients::divided;
 pub use refusals::{DivError, Halt, Wide};

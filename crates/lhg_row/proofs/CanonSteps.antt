@@ -4,10 +4,7 @@ use Rattle.std.proofs.lemmas.Grind.{common_steps}
 use Rattle.std.proofs.lemmas.List.{map_push}
 use Rattle.lhg_math.specs.Number.{Number}
 use Rattle.lhg_num.specs.Arithmetic.{Arithmetic, scaled, scaled-held, held_row}
-
--- a list whose items were written all over
-whole_slice : {A : Type 0} (n : ℕ) (new old : List A) → n ≡ length old → length new ≡ length old → take n (new ++ drop (length new) old) ≡ new
-whole_slice n new old e f = grind (arith, common_steps)
+use Rattle.lhg_math.specs.ListFacts.{written_over}
 
 -- the entries are then those of the calculus
 pub scaled_entries : {N : Type 0} (a : Arithmetic) (m : N → Number) → ((x : N) → a.holds (m x) ≡ true) → (n : ℕ) (coefs before now after : List N) (bound : N)
@@ -16,4 +13,4 @@ pub scaled_entries : {N : Type 0} (a : Arithmetic) (m : N → Number) → ((x : 
 scaled_entries a m held n coefs before now after bound p s l k e =
     let es = map m coefs ++ m bound ∷ [] in
     let same : map m now ≡ es = ap (map m) (s ∙ p) ∙ map_push m coefs bound in
-    ap (map m) (whole_slice n after before l (k ∙ ap length s)) ∙ e ∙ sym (scaled-held a (map m now) (held_row a m held now)) ∙ ap (scaled a) same
+    ap (map m) (written_over n after before l (k ∙ ap length s)) ∙ e ∙ sym (scaled-held a (map m now) (held_row a m held now)) ∙ ap (scaled a) same

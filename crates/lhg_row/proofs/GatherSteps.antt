@@ -5,6 +5,7 @@ use Rattle.lhg_math.specs.Tests.{by_bool}
 use Rattle.lhg_num.specs.Arithmetic.{Arithmetic}
 use Rattle.lhg_num.specs.Marked.{Marked, walk, IsRest}
 use Rattle.lhg_num.specs.MarkedLaws.{IsPart, rest_rest, rest_part, walk-append}
+use Rattle.lhg_num.specs.PartLaws.{walk-append_part}
 use Rattle.lhg_row.specs.Row.{PlainRow}
 use Rattle.lhg_row.specs.Piece.{PlainPiece}
 use Rattle.lhg_row.specs.Constant.{is_true}
@@ -12,16 +13,10 @@ use Rattle.lhg_row.specs.Width.{AllWide}
 use Rattle.lhg_row.specs.Trim.{placed, gathered}
 use Rattle.lhg_row.specs.WithoutLaws.{filter-wide}
 use Rattle.lhg_row.specs.WidthLaws.{gathered-wide}
-use Rattle.lhg_row.proofs.Steps.{done-part, then-part}
 
 -- a filter goes over the first member and then over the others
 filter-cons : {A : Type 0} (p : A → Bool) (x : A) (xs : List A) → filter p (x ∷ xs) ≡ filter p (x ∷ []) ++ filter p xs
 filter-cons p x xs = by_bool (p x) (λ e. rw e refl) (λ e. rw e refl)
-
--- the marks of a walk over the first of two lists are among those of the walk over both
-walk-append_part : {S A : Type 0} (f : S → A → Marked S) (s : S) (xs ys : List A) → IsPart (walk f s (xs ++ ys)) (walk f s xs)
-walk-append_part f s [] ys = done-part (walk f s ys) s
-walk-append_part f s (x ∷ xs) ys = then-part (f s x) (λ t. walk f t (xs ++ ys)) (λ t. walk f t xs) (walk-append_part f (f s x).value xs ys)
 
 -- the rows that are not true
 abbrev pub kept_of : PlainPiece → PlainPiece

@@ -4,10 +4,10 @@ use Rattle.lhg_math.specs.Tests.{by_bool}
 use Rattle.lhg_num.specs.Arithmetic.{Arithmetic}
 use Rattle.lhg_num.specs.Marked.{Marked, valued, done}
 use Rattle.lhg_num.specs.MarkedLaws.{IsPart, and_then-rest, rest_part}
+use Rattle.lhg_num.specs.PartLaws.{done-part, then-part}
 use Rattle.lhg_row.specs.Row.{PlainRow}
 use Rattle.lhg_row.specs.Piece.{PlainPiece}
 use Rattle.lhg_row.specs.Trim.{same_direction, bound_order, tighter, placed, place_along}
-use Rattle.lhg_row.proofs.Steps.{done-part, then-part}
 
 -- the row at place i is the first that has the direction of r
 pub record IsAlong (a : Arithmetic) (r : PlainRow) (ss : PlainPiece) (i : ℕ) : Type 0 where

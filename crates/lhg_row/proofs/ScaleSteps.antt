@@ -5,8 +5,9 @@ use Rattle.lhg_math.specs.Signs.{is_nought, lead}
 use Rattle.lhg_num.specs.Arithmetic.{Arithmetic}
 use Rattle.lhg_num.specs.Marked.{Marked, valued, IsRest}
 use Rattle.lhg_num.specs.MarkedLaws.{IsPart}
+use Rattle.lhg_num.specs.PartLaws.{rest_step, step_part}
+use Rattle.lhg_math.specs.ListFacts.{drop-map_cons}
 use Rattle.lhg_row.specs.Trim.{agree_at, agree}
-use Rattle.lhg_row.proofs.Steps.{drop-map_cons, rest_step, step_part}
 
 -- ---- the leading coefficient
 module _ {N : Type 0} (m : N → Number) (cs : List N) (i : ℕ) (c : N) (c_is : c ≡ get_or cs i c) (in_cs : i < length cs) where

@@ -3,8 +3,9 @@ use Rattle.std.proofs.Common.{◌≡◌, ℕ, ◌+◌, ◌<◌, ◌≤◌, List,
 use Rattle.std.proofs.lemmas.List.{drop_all}
 use Rattle.lhg_num.specs.Marked.{Marked, valued, IsRest}
 use Rattle.lhg_num.specs.MarkedLaws.{IsPart}
+use Rattle.lhg_num.specs.PartLaws.{rest_step, step_part}
+use Rattle.lhg_math.specs.ListFacts.{drop_cons}
 use Rattle.lhg_row.specs.MarkedTests.{marked_all, marked_any}
-use Rattle.lhg_row.proofs.Steps.{drop_cons, rest_step, step_part}
 
 module _ {A : Type 0} (t : A → Marked Bool) (xs : List A) (i : ℕ) (x : A) (x_is : x ≡ get_or xs i x) (in_xs : i < length xs) (whole : Marked Bool) where
   module _ (r : IsRest whole (marked_all t (drop i xs))) where

@@ -46,7 +46,7 @@ canon-holds a r x laws =
     (λ e. let m = scaled_multiple a (entries_of r) laws in rw e (ap (λ (q : PlainRow). holds_at q x) (row_of-canon a r laws) ∙ holds-scaled m.factor r x m.positive))
 
 -- canon of each row keeps the points of a list
-canons-hold : (a : Arithmetic) (rows : PlainPiece) (x : PlainPoint) → IsLawful a → in_piece (each (canon a) rows).value x ≡ in_piece rows x
+pub canons-hold : (a : Arithmetic) (rows : PlainPiece) (x : PlainPoint) → IsLawful a → in_piece (each (canon a) rows).value x ≡ in_piece rows x
 canons-hold a [] x laws = refl
 canons-hold a (r ∷ rows) x laws = ap (λ b. b && in_piece (each (canon a) rows).value x) (canon-holds a r x laws) ∙ ap (λ b. holds_at r x && b) (canons-hold a rows x laws)
 

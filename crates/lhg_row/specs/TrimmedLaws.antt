@@ -63,7 +63,7 @@ tighter-scaled a Greater s r h k = h
 
 -- ---- directions
 -- where the products are the same, the test passes
-same-agree : (a : Arithmetic) (f g : Number) (cs ds : List Number) → map (λ x. mul f x) cs ≡ map (λ x. mul g x) ds → (agree a (λ y. y) f g cs ds).value ≡ true
+pub same-agree : (a : Arithmetic) (f g : Number) (cs ds : List Number) → map (λ x. mul f x) cs ≡ map (λ x. mul g x) ds → (agree a (λ y. y) f g cs ds).value ≡ true
 same-agree a f g [] [] e = refl
 same-agree a f g [] (d ∷ ds) e = cc
 same-agree a f g (c ∷ cs) [] e = cc
@@ -92,7 +92,7 @@ through x y z (t ∷ ts) (r ∷ rs) (s ∷ ss) h e f =
 
 module _ (a : Arithmetic) where
   -- directions that are those of one row are the same
-  same-through : (t r s : PlainRow) → is_constant r ≡ false → (same_direction a t r).value ≡ true → (same_direction a r s).value ≡ true → (same_direction a t s).value ≡ true
+  pub same-through : (t r s : PlainRow) → is_constant r ≡ false → (same_direction a t r).value ≡ true → (same_direction a r s).value ≡ true → (same_direction a t s).value ≡ true
   same-through t r s v h k =
       same-agree a (lead_size s) (lead_size t) t.coefs s.coefs
       (through (lead_size t) (lead_size r) (lead_size s) t.coefs r.coefs s.coefs (size_above (lead r.coefs) v) (agree-same a (λ y. y) (lead_size r) (lead_size t) t.coefs r.coefs h)

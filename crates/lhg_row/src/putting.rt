@@ -59,8 +59,9 @@ fn lessened_bound<N: Scalar>(row: &Row<N>, point: &Point<N>) -> Result<N, Wide>
     row.bound.sub(&sum)
 }
 
-// The sum of the products of the first coefficients and the coordinates, from the first to the last.
-fn first_value<N: Scalar>(coefs: &[N], at: &[N]) -> Result<N, Wide>
+/// The sum of the products of the first coefficients and the coordinates, from the first to the last: the value of the terms of
+/// those variables that have values. It answers `Wide` only where the type refuses one of these products or sums.
+pub fn first_value<N: Scalar>(coefs: &[N], at: &[N]) -> Result<N, Wide>
     requires { length at.now ≤ length coefs.now }
     ensures { IsWideBy result (marked_value N.arithmetic nought (map N.meaning coefs.now) (map N.meaning at.now)) N.meaning }
 {

@@ -62,65 +62,90 @@ fn steps(alloc: Global, count: i64) -> Result<System<Frac>, Halt> {
     system(alloc, &lines)
 }
 
-fn tells_points(rt: &impl Abort, alloc: Global) -> Result<(), Halt> {
-    for (kind, at, want) in [
-        (Kind::Weak, 3, true),
-        (Kind::Strict, 3, false),
-        (Kind::Strict, 2, true),
-        (Kind::Weak, 4, false),
-    ] {
-        let row = over_x(alloc, kind, 3)?;
-        let at = Point {
-            at: [Frac::from(at)].to_vec(alloc)?,
-        };
-        assert_eq!(rt; holds(&row, &at)?, want, "{kind:?}");
-    }
+// The point with this number.
+fn point(alloc: Global, at: i64) -> Result<Point<Frac>, Halt>
+    ensures { IfOk result (λ p. length p ≡ 1) }
+{
+    Ok(Point {
+        at: [Frac::from(at)].to_vec(alloc)?,
+    })
+}
+
+// That x with this kind and the bound 3 holds at a point or not.
+fn tells(rt: &impl Abort, alloc: Global, kind: Kind, at: i64, want: bool) -> Result<(), Halt> {
+    let row = over_x(alloc, kind, 3)?;
+    let at = point(alloc, at)?;
+    assert_eq!(rt; holds(&row, &at)?, want, "{kind:?}");
     Ok(())
 }
 
 #[test]
-fn operations(rt: HostRuntime) -> Result<(), Fail> {
-    tells_points(&rt, rt.alloc())?;
+fn tells_points(rt: HostRuntime) -> Result<(), Fail> {
+    tells(&rt, rt.alloc(), Kind::Weak, 3, true)?;
+    tells(&rt, rt.alloc(), Kind::Strict, 3, false)?;
+    tells(&rt, rt.alloc(), Kind::Strict, 2, true)?;
+    tells(&rt, rt.alloc(), Kind::Weak, 4, false)?;
+    Ok(())
+}
+
+// That a row was made, and is this one.
+fn is(rt: &impl Abort, made: Result<Row<Frac>, Halt>, want: Shown) -> Result<(), Halt> {
+    let row = made?;
+    assert_eq!(rt; shown(&row), want);
+    Ok(())
+}
+
+#[test]
+fn turns_rows(rt: HostRuntime) -> Result<(), Fail> {
     let weak = over_x(rt.alloc(), Kind::Weak, 3)?;
+    let negated = (1, Some((-1, 1)), Kind::Strict, (-3, 1));
+    is(&rt, negate(rt.alloc(), &weak), negated)?;
+    let renamed = (2, Some((1, 1)), Kind::Weak, (3, 1));
+    is(&rt, rename(rt.alloc(), &weak, &[1], 2), renamed)?;
+    Ok(())
+}
+
+#[test]
+fn turns_strict_rows(rt: HostRuntime) -> Result<(), Fail> {
     let strict = over_x(rt.alloc(), Kind::Strict, 3)?;
-    let by = Point {
-        at: [Frac::from(2)].to_vec(rt.alloc())?,
-    };
-    let both = whole_row(rt.alloc(), &[2, 3], Kind::Strict, 5)?;
-    let cases = [
-        (
-            negate(rt.alloc(), &weak)?,
-            (1, Some((-1, 1)), Kind::Strict, (-3, 1)),
-        ),
-        (
-            negate(rt.alloc(), &strict)?,
-            (1, Some((-1, 1)), Kind::Weak, (-3, 1)),
-        ),
-        (
-            relax(rt.alloc(), &strict)?,
-            (1, Some((1, 1)), Kind::Weak, (3, 1)),
-        ),
-        (
-            shift(rt.alloc(), &weak, &by, &Frac::from(1))?,
-            (1, Some((1, 1)), Kind::Weak, (1, 1)),
-        ),
-        (
-            rename(rt.alloc(), &weak, &[1], 2)?,
-            (2, Some((1, 1)), Kind::Weak, (3, 1)),
-        ),
-        (
-            put_in(rt.alloc(), &both, &by)?,
-            (1, Some((3, 1)), Kind::Strict, (1, 1)),
-        ),
-    ];
-    for (got, want) in cases {
-        assert_eq!(rt; shown(&got), want);
-    }
-    let put = put_in_each(rt.alloc(), &[both], &by)?;
-    assert_eq!(rt;
-        put.first().map(shown),
-        Some((1, Some((3, 1)), Kind::Strict, (1, 1)))
-    );
+    let negated = (1, Some((-1, 1)), Kind::Weak, (-3, 1));
+    is(&rt, negate(rt.alloc(), &strict), negated)?;
+    let relaxed = (1, Some((1, 1)), Kind::Weak, (3, 1));
+    is(&rt, relax(rt.alloc(), &strict), relaxed)?;
+    Ok(())
+}
+
+#[test]
+fn moves_rows(rt: HostRuntime) -> Result<(), Fail> {
+    let weak = over_x(rt.alloc(), Kind::Weak, 3)?;
+    let by = point(rt.alloc(), 2)?;
+    let want = (1, Some((1, 1)), Kind::Weak, (1, 1));
+    is(&rt, shift(rt.alloc(), &weak, &by, &Frac::from(1)), want)?;
+    Ok(())
+}
+
+#[test]
+fn puts_in(rt: HostRuntime) -> Result<(), Fail> {
+    let both = [row(rt.alloc(), &(2, 3, Kind::Strict, 5))?];
+    let by = point(rt.alloc(), 2)?;
+    let want = (1, Some((3, 1)), Kind::Strict, (1, 1));
+    is(&rt, put_in(rt.alloc(), &both[0], &by), want)?;
+    let put = put_in_each(rt.alloc(), &both, &by)?;
+    assert_eq!(rt; put.first().map(shown), Some(want));
+    Ok(())
+}
+
+// That these rows are trimmed to one, or to none.
+fn trims_to(
+    rt: &impl Abort,
+    alloc: Global,
+    lines: &[Line],
+    want: Option<Shown>,
+) -> Result<(), Halt> {
+    let sys = system(alloc, lines)?;
+    assert_eq!(rt; sys.vars(), 2);
+    assert_eq!(rt; sys.rows().first().map(shown), want, "{lines:?}");
+    assert!(rt; sys.rows().len() <= 1);
     Ok(())
 }
 
@@ -131,31 +156,35 @@ fn trims(rt: HostRuntime) -> Result<(), Fail> {
     let strict = (1, 2, Kind::Strict, 2);
     let always = (0, 0, Kind::Weak, 0);
     let never = (0, 0, Kind::Strict, 0);
-    let cases = [
-        (
-            [weak, always, twice],
-            Some((2, Some((2, 1)), Kind::Weak, (2, 1))),
-        ),
-        (
-            [twice, weak, strict],
-            Some((2, Some((2, 1)), Kind::Strict, (2, 1))),
-        ),
-        (
-            [weak, never, twice],
-            Some((2, Some((0, 1)), Kind::Strict, (0, 1))),
-        ),
-        ([always, always, always], None),
-    ];
-    for (lines, want) in cases {
-        let sys = system(rt.alloc(), &lines)?;
-        assert_eq!(rt; sys.vars(), 2);
-        assert_eq!(rt; sys.rows().first().map(shown), want, "{lines:?}");
-        assert!(rt; sys.rows().len() <= 1);
-    }
+    let tight = Some((2, Some((2, 1)), Kind::Weak, (2, 1)));
+    trims_to(&rt, rt.alloc(), &[weak, always, twice], tight)?;
+    let tighter = Some((2, Some((2, 1)), Kind::Strict, (2, 1)));
+    trims_to(&rt, rt.alloc(), &[twice, weak, strict], tighter)?;
+    let nothing = Some((2, Some((0, 1)), Kind::Strict, (0, 1)));
+    trims_to(&rt, rt.alloc(), &[weak, never, twice], nothing)?;
+    trims_to(&rt, rt.alloc(), &[always, always, always], None)?;
+    Ok(())
+}
+
+#[test]
+fn counts_rows(rt: HostRuntime) -> Result<(), Fail> {
     assert_eq!(rt; ROW_LIMIT, 8192);
     assert_eq!(rt; steps(rt.alloc(), 8192)?.rows().len(), 1);
     assert_eq!(rt; steps(rt.alloc(), 8193).err(), Some(Halt::Rows));
     Ok(())
+}
+
+// That the first and the last of two rows are these.
+fn are_both(rt: &impl Abort, rows: &[Row<Frac>]) {
+    assert_eq!(rt; rows.len(), 2);
+    assert_eq!(rt;
+        rows.first().map(shown),
+        Some((2, Some((2, 1)), Kind::Strict, (3, 1)))
+    );
+    assert_eq!(rt;
+        rows.last().map(shown),
+        Some((2, Some((-1, 1)), Kind::Weak, (0, 1)))
+    );
 }
 
 #[test]
@@ -164,33 +193,19 @@ fn copies(rt: HostRuntime) -> Result<(), Fail> {
         rt.alloc(),
         &[(1, 2, Kind::Strict, 3), (0, -1, Kind::Weak, 0)],
     )?;
+    are_both(&rt, &copy_rows(rt.alloc(), sys.rows())?);
     let copy = sys.copy(rt.alloc())?;
     assert_eq!(rt; copy.vars(), 2);
-    for rows in [copy.into_rows(), copy_rows(rt.alloc(), sys.rows())?] {
-        assert_eq!(rt; rows.len(), 2);
-        assert_eq!(rt;
-            rows.first().map(shown),
-            Some((2, Some((2, 1)), Kind::Strict, (3, 1)))
-        );
-        assert_eq!(rt;
-            rows.last().map(shown),
-            Some((2, Some((-1, 1)), Kind::Weak, (0, 1)))
-        );
-    }
+    are_both(&rt, &copy.into_rows());
     Ok(())
 }
 
 #[test]
-fn scaled_comparisons(rt: HostRuntime) -> Result<(), Fail> {
+fn compares_scaled(rt: HostRuntime) -> Result<(), Fail> {
     let one = Frac::from(1);
     let two = Frac::from(2);
     let cs = [Frac::from(0), Frac::from(-2)];
     let ds = [Frac::from(0), Frac::from(-4)];
-    assert_eq!(rt; size(&Frac::from(-2)), two);
-    assert_eq!(rt; lead(&cs), Frac::from(-2));
-    assert_eq!(rt; lead_size(&row(rt.alloc(), &(0, -2, Kind::Weak, 1))?), two);
-    assert_eq!(rt; stricter(Kind::Weak, Kind::Strict), Kind::Strict);
-    assert_eq!(rt; times(&two, &two)?, Frac::from(4));
     assert!(rt; agree_at(Sense::Opposite, &two, &one, &two, &Frac::from(-4))?);
     assert!(rt; agree(Sense::Same, &two, &one, &cs, &ds)?);
     assert!(rt; !agree(Sense::Opposite, &two, &one, &cs, &ds)?);
@@ -198,19 +213,38 @@ fn scaled_comparisons(rt: HostRuntime) -> Result<(), Fail> {
 }
 
 #[test]
-fn refuses_wide_numbers(rt: HostRuntime) -> Result<(), Fail> {
-    let far = Frac::new(i128::MAX, 1)?;
+fn sizes(rt: HostRuntime) -> Result<(), Fail> {
     let two = Frac::from(2);
-    let at = Point {
-        at: [far].to_vec(rt.alloc())?,
-    };
+    assert_eq!(rt; size(&Frac::from(-2)), two);
+    assert_eq!(rt; lead(&[Frac::from(0), Frac::from(-2)]), Frac::from(-2));
+    assert_eq!(rt; lead_size(&row(rt.alloc(), &(0, -2, Kind::Weak, 1))?), two);
+    assert_eq!(rt; stricter(Kind::Weak, Kind::Strict), Kind::Strict);
+    assert_eq!(rt; times(&two, &two)?, Frac::from(4));
+    Ok(())
+}
+
+// The point that is past every number that may stand beside it.
+fn far(alloc: Global) -> Result<Point<Frac>, Fail>
+    ensures { IfOk result (λ p. length p ≡ 1) }
+{
+    Ok(Point {
+        at: [Frac::new(i128::MAX, 1)?].to_vec(alloc)?,
+    })
+}
+
+#[test]
+fn refuses_wide_shifts(rt: HostRuntime) -> Result<(), Fail> {
+    let at = far(rt.alloc())?;
     let weak = over_x(rt.alloc(), Kind::Weak, 3)?;
-    assert_eq!(rt; shift(rt.alloc(), &weak, &at, &two).err(), Some(Halt::Wide));
-    let steep = Row {
-        coefs: [two].to_vec(rt.alloc())?,
-        kind: Kind::Weak,
-        bound: Frac::from(3),
-    };
+    let shifted = shift(rt.alloc(), &weak, &at, &Frac::from(2));
+    assert_eq!(rt; shifted.err(), Some(Halt::Wide));
+    Ok(())
+}
+
+#[test]
+fn refuses_wide_values(rt: HostRuntime) -> Result<(), Fail> {
+    let at = far(rt.alloc())?;
+    let steep = whole_row(rt.alloc(), &[2], Kind::Weak, 3)?;
     assert_eq!(rt; holds(&steep, &at), Err(Wide));
     Ok(())
 }

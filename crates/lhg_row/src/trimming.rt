@@ -100,8 +100,9 @@ fn place_along<N: Scalar>(kept: &[Row<N>], row: &Row<N>) -> Result<Option<usize>
     Ok(None)
 }
 
-// Whether the coefficients are the same after each row was multiplied by the size of the other's leading coefficient, which is g for r.
-fn same_direction<N: Scalar>(r: &Row<N>, g: &N, s: &Row<N>) -> Result<bool, Wide>
+/// Whether the coefficients are the same after each row was multiplied by the size of the other's leading coefficient, which is g for r.
+/// It answers `Wide` only where the type refuses one of the products.
+pub fn same_direction<N: Scalar>(r: &Row<N>, g: &N, s: &Row<N>) -> Result<bool, Wide>
     requires same { length r.now.coefs ≡ length s.now.coefs }
     requires size { N.meaning g.now ≡ calculus.lead_size r.now }
     ensures { IsWideBy result (calculus.same_direction N.arithmetic r.now s.now) (λ b. b) }
@@ -209,8 +210,8 @@ fn split<N: Scalar>(mut entries: Vec<N>, kind: Kind) -> Row<N>
     }
 }
 
-// Whether all coefficients are 0.
-fn is_constant<N: Scalar>(row: &Row<N>) -> bool
+/// Whether all coefficients are 0.
+pub fn is_constant<N: Scalar>(row: &Row<N>) -> bool
     ensures { result ≡ constant.is_constant row.now }
 {
     lead(&row.coefs).is_zero()

@@ -8,7 +8,7 @@ use Rattle.lhg_math.specs.Number.{Number, nought}
 use Rattle.lhg_math.specs.Signs.{is_nought, lead}
 use Rattle.lhg_math.specs.Tests.{by_bool}
 use Rattle.lhg_math.specs.SignLaws.{is_nought-neg}
-use Rattle.lhg_row.proofs.Steps.{drop_cons}
+use Rattle.lhg_math.specs.ListFacts.{drop_cons}
 use Rattle.lhg_lex.proofs.Fronts.{suc_is}
 use Rattle.lhg_row_text.specs.RowText.{terms_from, terms_text, next_term, next_terms, term_text, turned, jump_names}
 

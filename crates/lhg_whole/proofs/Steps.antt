@@ -14,6 +14,7 @@ use Rattle.lhg_whole.specs.ContentLaws.{add-whole, mul-whole}
 use Rattle.lhg_whole.specs.WholeModel.{IsWithin}
 use Rattle.lhg_whole.specs.declared.whole.Whole.TheInside.{Inside}
 use Rattle.lhg_whole.proofs.Fields.{value_is}
+use Rattle.lhg_math.specs.ListFacts.{drop-map_cons}
 
 -- ---- two fields
 module _ (f g : Inside) (hf : IsWithin f.value) (hg : IsWithin g.value) (a b : ℤ) (ea : f.value ≡ a) (eb : g.value ≡ b) where
@@ -26,12 +27,6 @@ module _ (f g : Inside) (hf : IsWithin f.value) (hg : IsWithin g.value) (a b : �
   product_is = mul-whole a b ∙ ap (λ u. whole (u *ℤ b)) (sym (value_is f hf a ea)) ∙ ap (λ v. whole (to_z w128 (of_z w128 f.value) *ℤ v)) (sym (value_is g hg b eb))
 
 -- ---- the content, from the last entry to the first
--- a list from place i on is its member there and the list from the next place on
-drop-map_cons : {A B : Type 0} (f : A → B) (xs : List A) (i : ℕ) (x : A) → x ≡ get_or xs i x → i < length xs → drop i (map f xs) ≡ f x ∷ drop (i + 1) (map f xs)
-drop-map_cons f [] i x e h = absurd (omega arith)
-drop-map_cons f (y ∷ ys) zero x e h = rw (← e) refl
-drop-map_cons f (y ∷ ys) (suc i) x e h = rw (add-one) (drop-map_cons f ys i x e (omega arith) ∙ rw add-one refl)
-
 -- past the last entry nothing is left
 pub content-start : (zs : List ℤ) → 0 ≡ content (drop (length zs) (map whole zs))
 content-start [] = refl

@@ -20,6 +20,7 @@ use Rattle.lhg_math.specs.Quotients.{mul-inverse, mul-quot, quot-is, abs_pos_of_
 use Rattle.lhg_math.specs.Tests.{all_of, by_bool, false_true}
 use Rattle.lhg_num.specs.Arithmetic.{IsMultiple, multiple_self}
 use Rattle.lhg_whole.specs.Content.{is_whole, content, canon_whole}
+use Rattle.lhg_math.specs.Quotients.{map-quot, inverse_positive, inverse_scaled, map_mul}
 
 -- ---- whole numbers
 -- a whole number is its numerator
@@ -171,15 +172,6 @@ scaled_already zs g e h =
     rw n (sym (ap (λ (k : ℕ). map (λ x. quot x (whole (pos k))) (map whole zs)) one ∙ quots-one (map whole zs))))
 
 -- ---- the laws of scaling
--- to divide by a number is to multiply by its inverse
-map-quot : (s : Number) (xs : List Number) → map (λ x. quot x s) xs ≡ map (λ x. mul (inverse s) x) xs
-map-quot s [] = refl
-map-quot s (x ∷ xs) = ap (λ y. y ∷ map (λ z. quot z s) xs) (quot-is x s ∙ mul_comm x (inverse s)) ∙ ap (λ ys. mul (inverse s) x ∷ ys) (map-quot s xs)
-
--- the inverse of a positive number is positive
-inverse_positive : (x : Number) → lt nought x ≡ true → lt nought (inverse x) ≡ true
-inverse_positive x h = sym (lt-mul x nought (inverse x) h) ∙ ap (λ w. lt w (mul x (inverse x))) (mul-nought x) ∙ ap (λ w. lt nought w) (mul-inverse x (abs_pos_of_lt x h)) ∙ nought_unit
-
 -- a scaled row is a positive multiple
 pub canon_multiple : (row : List Number) → all_of is_whole row ≡ true → IsMultiple row (canon_whole row)
 canon_multiple row w =
@@ -193,20 +185,6 @@ canon_held row w =
     by_bool (nat_eq (content row) 0)
     (λ e. rw e w)
     (λ e. rw e (quotients_whole (content row) row (some_of (content row) e) w (dvd_refl (content row))))
-
--- factors one after the other
-pub map_mul : (a b c : Number) (xs : List Number) → mul a b ≡ c → map (λ x. mul a x) (map (λ x. mul b x) xs) ≡ map (λ x. mul c x) xs
-map_mul a b c [] e = refl
-map_mul a b c (x ∷ xs) e = ap (λ y. y ∷ map (λ z. mul a z) (map (λ z. mul b z) xs)) (sym (mul_assoc a b x) ∙ ap (λ w. mul w x) e) ∙ ap (λ ys. mul c x ∷ ys) (map_mul a b c xs e)
-
--- a factor of the entries and of the divisor falls away
-inverse_scaled : (k s : Number) → lt nought k ≡ true → lt nought s ≡ true → mul (inverse (mul k s)) k ≡ inverse s
-inverse_scaled k s h p =
-    let a = inverse (mul k s) in
-    let one : mul (mul k s) a ≡ unit = mul-inverse (mul k s) (abs_pos_of_lt _ (mul_positive k s h p)) in
-    let two : mul s (inverse s) ≡ unit = mul-inverse s (abs_pos_of_lt s p) in
-    let three : mul (mul a k) s ≡ unit = mul_assoc a k s ∙ mul_comm a (mul k s) ∙ one in
-    sym (mul-unit (mul a k)) ∙ ap (λ w. mul (mul a k) w) (sym two) ∙ sym (mul_assoc (mul a k) s (inverse s)) ∙ ap (λ w. mul w (inverse s)) three ∙ mul_comm unit (inverse s) ∙ mul-unit (inverse s)
 
 -- a factor is the quotient of the contents: over the whole numbers q and p that it is a quotient of
 record IsQuotient (f : Number) : Type 0 where

@@ -11,14 +11,14 @@ use Rattle.lhg_math.specs.GcdLemmas.{gcd-left, gcd-right, gcd_comm, right-pos}
 use Rattle.lhg_math.specs.Integers.{ring}
 use Rattle.lhg_math.specs.Number.{Number, mul, lt, nought, whole, quot}
 use Rattle.lhg_math.specs.NumberOrder.{mul_positive}
-use Rattle.lhg_math.specs.Quotients.{mul-quot, abs_pos_of_lt}
+use Rattle.lhg_math.specs.Quotients.{mul-quot, abs_pos_of_lt, map_mul}
 use Rattle.lhg_math.specs.Represents.{rep_self, rep_eq, rep_mul, rep_whole}
 use Rattle.lhg_math.specs.Tests.{AllOf, all_of, by_bool}
 use Rattle.lhg_num.specs.Arithmetic.{IsMultiple}
 use Rattle.lhg_num.specs.FracCanon.{canon_frac}
 use Rattle.lhg_num.specs.FracCanon as fractions
 use Rattle.lhg_whole.specs.Content.{is_whole, content, canon_whole}
-use Rattle.lhg_whole.specs.ContentLaws.{whole-is_whole, content-scaled, some_of, whole_positive, map_mul, quotients_whole, canon_multiple, canon_held, canon_same}
+use Rattle.lhg_whole.specs.ContentLaws.{whole-is_whole, content-scaled, some_of, whole_positive, quotients_whole, canon_multiple, canon_held, canon_same}
 use Rattle.lhg_whole.specs.Lifting.{lcm, multiple_from, common_multiple, lifted, IsCoprime}
 
 -- ---- the least common multiple

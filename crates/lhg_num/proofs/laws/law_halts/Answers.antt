@@ -1,4 +1,5 @@
-use Rattle.lhg_num.proofs.Halted.{wide_halts, part_halts_for}
+use Rattle.lhg_num.specs.AnswerLaws.{part_halts_for}
+use Rattle.lhg_num.proofs.Halted.{wide_halts}
 use Rattle.lhg_num.proofs.laws.law_halts.Goals as goal
 
 pub returns : goal.returns

@@ -1,6 +1,6 @@
 use Rattle.std.proofs.Common.{◌∙◌, ◌+◌, ◌++◌, ap, sym, map, drop}
 use Rattle.lhg_math.specs.Number.{neg}
-use Rattle.lhg_row.proofs.Steps.{drop-map_cons}
+use Rattle.lhg_math.specs.ListFacts.{drop-map_cons}
 use Rattle.lhg_row.proofs.FormSteps.{images-step}
 use Rattle.lhg_row.proofs.forms.negatives.Goals as goal
 

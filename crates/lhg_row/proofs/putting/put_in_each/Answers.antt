@@ -3,11 +3,11 @@ use Rattle.std.proofs.Math.ListN.{drop_of_length-le}
 use Rattle.lhg_num.proofs.Halted.{part_halts_wide}
 use Rattle.lhg_num.specs.Marked.{each}
 use Rattle.lhg_num.specs.MarkedLaws.{IsBuilt, built-end}
+use Rattle.lhg_math.specs.ListFacts.{drop_cons}
 use Rattle.lhg_row.specs.PutIn.{put_in, put_in_each}
 use Rattle.lhg_row.specs.PutInLaws.{put_in_each-points}
 use Rattle.lhg_row.specs.Row.{PlainRow}
 use Rattle.lhg_row.specs.Piece.{in_piece}
-use Rattle.lhg_row.proofs.Steps.{drop_cons}
 use Rattle.lhg_row.proofs.BuiltSteps.{taken-part, taken-step}
 use Rattle.lhg_row.proofs.putting.put_in_each.Goals as goal
 

@@ -1,6 +1,6 @@
 use Rattle.std.proofs.Common.{arith}
+use Rattle.lhg_num.specs.AnswerLaws.{wide_on}
 use Rattle.lhg_row.specs.Senses.{seen_as}
-use Rattle.lhg_row.proofs.Steps.{wide_on}
 use Rattle.lhg_row.proofs.ScaleSteps.{agree-part, agree-stop, agree-on}
 use Rattle.lhg_row.proofs.scaling.agree.Goals as goal
 

@@ -2,6 +2,8 @@ use Rattle.std.proofs.Common.{◌≡◌, ◌<◌, ◌∙◌, length, vec_len, ap
 use Rattle.lhg_num.specs.Arithmetic.{IsLawful}
 use Rattle.lhg_num.specs.Marked.{each}
 use Rattle.lhg_num.specs.MarkedLaws.{IsPart}
+use Rattle.lhg_num.specs.PartLaws.{rest_is_part}
+use Rattle.lhg_num.proofs.Halted.{rows_on_wide}
 use Rattle.lhg_row.specs.Piece.{PlainPiece, in_piece}
 use Rattle.lhg_row.specs.System.{PlainSystem}
 use Rattle.lhg_row.specs.Width.{AllWide}
@@ -10,7 +12,6 @@ use Rattle.lhg_row.specs.TrimLaws.{trim-holds}
 use Rattle.lhg_row.specs.TrimmedLaws.{trim-trimmed}
 use Rattle.lhg_row.specs.WidthLaws.{canons-wide, trim-wide}
 use Rattle.lhg_row.proofs.TrimSteps.{trim-long, trim-canons_part, trim-settled_rest}
-use Rattle.lhg_row.proofs.Steps.{rest_is_part, rows_on_wide}
 use Rattle.lhg_row.proofs.trimming.trim.Goals as goal
 
 pub returns-then-len-gt-ROW_LIMIT-clause-list : goal.returns-then-len-gt-ROW_LIMIT-clause-list

@@ -1,5 +1,6 @@
 use Rattle.std.proofs.Common.{arith}
-use Rattle.lhg_row.proofs.Steps.{value-step, value-part, wide_on}
+use Rattle.lhg_num.specs.AnswerLaws.{wide_on}
+use Rattle.lhg_row.proofs.Steps.{value-step, value-part}
 use Rattle.lhg_row.proofs.values.value_from.Goals as goal
 
 pub loop-i-preserved : goal.loop-i-preserved

@@ -1,9 +1,9 @@
 use Rattle.std.proofs.Common.{length, sym, ap, ◌∙◌, subst}
+use Rattle.lhg_math.specs.ListFacts.{all_map_at}
 use Rattle.lhg_plant.specs.declared.plants.Location.{Location}
 use Rattle.lhg_plant.specs.Proper.{IsLocation}
 use Rattle.lhg_plant.specs.Views.{plain_location}
 use Rattle.lhg_row.specs.Width.{AllWide}
-use Rattle.lhg_row_text.proofs.Members.{all_map_at}
 use Rattle.lhg_row_text.proofs.tests.push_each.Goals as goal
 
 pub push_rows-requires : goal.push_rows-requires
