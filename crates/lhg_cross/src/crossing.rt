@@ -10,7 +10,8 @@ ghost use Rattle.lhg_cross.specs.Counts.{raised};
 use crate::assembling::cross_rows;
 use crate::tallies::Tally;
 use lhg_num::{Halt, Scalar};
-use lhg_poly::{Poly, project};
+use lhg_poly::{Poly, are_refuted};
+use lhg_prune::project_further;
 use lhg_row::{Row, trim};
 use std::alloc::Global;
 
@@ -38,7 +39,7 @@ pub fn cross<N: Scalar>(
     crossing(alloc, from, through, into, flow)
 }
 
-// The points of `from` that have a crossing.
+// The points of `from` that have a crossing. Rows that a guess refutes are not trimmed.
 fn crossing<N: Scalar>(
     alloc: Global,
     from: &Poly<N>,
@@ -56,8 +57,12 @@ fn crossing<N: Scalar>(
     let n = from.vars();
     let vars = both_ends_and_time(n)?;
     let rows = cross_rows(alloc, n, from.rows(), through.rows(), into.rows(), flow)?;
+    let none = are_refuted(alloc, vars, &rows)?;
+    if none {
+        return Ok(None);
+    }
     let system = trim(alloc, vars, rows)?;
-    project(alloc, &system, n)
+    project_further(alloc, &system, n)
 }
 
 // How many variables two points with n coordinates each and a time have. Where they can't be counted there is no memory for their coefficients.

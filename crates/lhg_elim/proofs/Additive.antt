@@ -6,20 +6,17 @@ use Rattle.std.proofs.lemmas.List.{map-append, length-append}
 use Rattle.lhg_math.specs.Tests.{by_bool}
 use Rattle.lhg_num.specs.Marked.{Marked, done, and_then, valued, each}
 use Rattle.lhg_num.specs.MarkedLaws.{IsPart, part_part, and_then-part}
+use Rattle.lhg_num.specs.PartLaws.{marked-is}
+use Rattle.lhg_math.specs.ListFacts.{drop_cons}
 use Rattle.lhg_row.specs.Row.{PlainRow}
 use Rattle.lhg_row.specs.Piece.{PlainPiece}
 use Rattle.lhg_row.specs.Trim.{row_limit, counted}
 use Rattle.lhg_row.specs.Eliminate.{each_joined}
-use Rattle.lhg_row.proofs.Steps.{drop_cons}
 
 -- ---- lists one after the other
 -- a list and then another
 abbrev pub both : {A : Type 0} → Marked (List A) → Marked (List A) → Marked (List A)
 both m n = and_then m (λ xs. valued (λ ys. xs ++ ys) n)
-
--- two calculations with the same value and the same marks are the same
-pub marked-is : {A : Type 0} (m n : Marked A) → m.value ≡ n.value → m.wide ≡ n.wide → m.rows ≡ n.rows → m.pieces ≡ n.pieces → m ≡ n
-marked-is m n e f g h = λ i. record { value = e i; wide = f i; rows = g i; pieces = h i }
 
 -- nothing comes before a list
 nothing-both : {A : Type 0} (m : Marked (List A)) → both (done []) m ≡ m

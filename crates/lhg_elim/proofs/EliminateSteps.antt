@@ -4,21 +4,13 @@ use Rattle.std.proofs.Math.Bool.{or_assoc}
 use Rattle.lhg_num.specs.Arithmetic.{Arithmetic}
 use Rattle.lhg_num.specs.Marked.{Marked, and_then, each, IsRest}
 use Rattle.lhg_num.specs.MarkedLaws.{IsPart, and_then-part, and_then-rest}
+use Rattle.lhg_num.specs.PartLaws.{then-part, then-then}
 use Rattle.lhg_row.specs.Piece.{PlainPiece}
 use Rattle.lhg_row.specs.Width.{AllWide, HasVariable}
 use Rattle.lhg_row.specs.Trim.{counted, canon, settled, trim}
 use Rattle.lhg_row.specs.Eliminate.{pair_at, without, eliminate}
 use Rattle.lhg_row.specs.NothingLaws.{eliminate-eliminated}
 use Rattle.lhg_row.specs.WidthLaws.{without-wide}
-use Rattle.lhg_row.proofs.Steps.{then-part}
-use Rattle.lhg_elim.proofs.Additive.{marked-is}
-
--- three steps, one after the other
-then-then : {A B C : Type 0} (m : Marked A) (f : A → Marked B) (g : B → Marked C) → and_then (and_then m f) g ≡ and_then m (λ x. and_then (f x) g)
-then-then m f g =
-    let n = f m.value in
-    let o = g n.value in
-    marked-is (and_then (and_then m f) g) (and_then m (λ x. and_then (f x) g)) refl (or_assoc m.wide n.wide o.wide) (or_assoc m.rows n.rows o.rows) (or_assoc m.pieces n.pieces o.pieces)
 
 -- the list that is trimmed is counted
 counted_part : (a : Arithmetic) (rows : PlainPiece) → IsPart (trim a rows) (counted rows)

@@ -5,8 +5,8 @@ use Rattle.lhg_math.specs.Number.{Number}
 use Rattle.lhg_num.specs.Arithmetic.{Arithmetic}
 use Rattle.lhg_num.specs.Marked.{Marked}
 use Rattle.lhg_num.specs.MarkedLaws.{IsBuilt, IsPart, built-step, built-part}
+use Rattle.lhg_math.specs.ListFacts.{drop-map_cons}
 use Rattle.lhg_row.specs.Combine.{entry, entries}
-use Rattle.lhg_row.proofs.Steps.{drop-map_cons}
 
 module _ {N : Type 0} (m : N → Number) (a : Arithmetic) (f g : Number) (cs ds : List N) (i : ℕ) (c d : N) (c_is : c ≡ get_or cs i c) (d_is : d ≡ get_or ds i d) (in_cs : i < length cs) (in_ds : i < length ds)
     (whole : Marked (List Number)) (out : List N) (b : IsBuilt whole (map m out) (entries a f g (drop i (map m cs)) (drop i (map m ds)))) where

@@ -2,9 +2,9 @@
 use Rattle.std.proofs.Common.{◌≡◌, ℕ, suc, ◌+◌, ◌-◌, ◌<◌, subst, arith}
 use Rattle.lhg_num.specs.Arithmetic.{Arithmetic}
 use Rattle.lhg_num.specs.Marked.{Marked, and_then, IsRest}
+use Rattle.lhg_num.specs.PartLaws.{rest_step}
 use Rattle.lhg_row.specs.Piece.{PlainPiece}
 use Rattle.lhg_row.specs.Eliminate.{eliminate, eliminate_last}
-use Rattle.lhg_row.proofs.Steps.{rest_step}
 
 module _ (a : Arithmetic) (keep n k : ℕ) (rows : PlainPiece) (k_is : k ≡ n - 1) (more : keep < n) (whole : Marked PlainPiece) (r : IsRest whole (eliminate_last a keep (n - keep) rows)) where
   here : IsRest whole (and_then (eliminate a k rows) (eliminate_last a keep (k - keep)))

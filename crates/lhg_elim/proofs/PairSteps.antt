@@ -2,10 +2,11 @@
 use Rattle.std.proofs.Common.{◌≡◌, ℕ, zero, suc, ◌+◌, ◌<◌, [], ◌∷◌, length, drop, get_or, cond, Bool, false, Option, Some, sym, subst, arith}
 use Rattle.lhg_num.specs.Arithmetic.{Arithmetic}
 use Rattle.lhg_num.specs.Marked.{Marked, done, IsRest}
+use Rattle.lhg_num.specs.PartLaws.{rest_step}
+use Rattle.lhg_math.specs.ListFacts.{drop_cons}
 use Rattle.lhg_row.specs.Row.{PlainRow}
 use Rattle.lhg_row.specs.Piece.{PlainPiece}
 use Rattle.lhg_row.specs.Eliminate.{is_mate, mate_at, row_at}
-use Rattle.lhg_row.proofs.Steps.{drop_cons, rest_step}
 
 -- the row that stands at a place
 pub row_at-is : (rows : PlainPiece) (i : ℕ) (r : PlainRow) → r ≡ get_or rows i r → i < length rows → row_at rows i ≡ r

@@ -41,10 +41,6 @@ module _ {A B : Type 0} (R : A → B → Type 0) where
   pub beside-end : (xs : List A) (i : ℕ) (ys : List B) → length xs ≤ i → AllBeside R (take i xs) ys → AllBeside R xs ys
   beside-end xs i ys l h = subst (λ zs. AllBeside R zs ys) (take_all i xs l) h
 
--- a list whose items were written all over
-pub written_over : {A : Type 0} (n : ℕ) (new old : List A) → n ≡ length old → length new ≡ length old → take n (new ++ drop (length new) old) ≡ new
-written_over n new old e f = grind (arith, common_steps)
-
 -- ---- rows
 -- a row whose entries are a multiple of those of a row of the type is alike that row
 pub lifted-alike : (a : Arithmetic) (r : PlainRow) (zs : List Number) → all_of a.holds (entries_of r) ≡ true → IsMultiple (entries_of r) zs → IsAlike a r (row_of r.strict zs)

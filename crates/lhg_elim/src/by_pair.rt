@@ -9,9 +9,9 @@ ghost use Rattle.lhg_row.specs.Eliminate as calculus;
 ghost use Rattle.lhg_elim.specs.Pushed.{pushed};
 
 use crate::narrowing::combined;
-use crate::sides::{is_level, same_side};
+use crate::sides::same_side;
 use lhg_num::{Halt, Scalar};
-use lhg_row::Row;
+use lhg_row::{Row, is_level};
 use std::alloc::Global;
 
 /// Puts the combinations of each row over variable k, beside those at places i and j, with the one of these two that bounds k

@@ -9,14 +9,13 @@ ghost use Rattle.lhg_row.specs.Eliminate as calculus;
 ghost use Rattle.lhg_elim.specs.Pushed.{pushed};
 
 use crate::narrowing::combined;
-use crate::sides::{is_lower, is_upper};
 use lhg_num::{Halt, Scalar};
-use lhg_row::{ROW_LIMIT, Row};
+use lhg_row::{ROW_LIMIT, Row, is_lower, is_upper};
 use std::alloc::Global;
 
 /// Puts the combinations of each upper with each lower row at the end, over the variables other than k. Where the list is
 /// past its limit after some upper row, `Rows` is the answer at once.
-pub(crate) fn push_sides<N: Scalar>(
+pub fn push_sides<N: Scalar>(
     alloc: Global,
     out: &mut Vec<Row<N>>,
     rows: &[Row<N>],
@@ -34,8 +33,8 @@ pub(crate) fn push_sides<N: Scalar>(
     Ok(())
 }
 
-// Puts the combinations of the row with each lower row at the end, where it is an upper row.
-fn push_upper<N: Scalar>(
+/// Puts the combinations of the row with each lower row at the end, over the variables other than k, where it is an upper row.
+pub fn push_upper<N: Scalar>(
     alloc: Global,
     out: &mut Vec<Row<N>>,
     rows: &[Row<N>],

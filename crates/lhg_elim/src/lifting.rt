@@ -9,10 +9,7 @@ use lhg_whole::{Whole, lift};
 use std::alloc::Global;
 
 /// The rows, each times the positive number that makes its entries whole and coprime. It halts for `Wide` also where an entry has no fraction.
-pub(crate) fn lifted_rows<N: Scalar>(
-    alloc: Global,
-    rows: &[Row<N>],
-) -> Result<Vec<Row<Whole>>, Halt>
+pub fn lifted_rows<N: Scalar>(alloc: Global, rows: &[Row<N>]) -> Result<Vec<Row<Whole>>, Halt>
     ensures { IfOk result (λ v. AllAlike N.arithmetic rows.now v.items) }
 {
     let mut out = Vec::with_capacity(alloc, rows.len())?;

@@ -9,7 +9,7 @@ ghost use Rattle.lhg_row.specs.Eliminate as calculus;
 
 use crate::by_pair::push_beside;
 use crate::by_sides::push_sides;
-use crate::levels::levels;
+use crate::leveling::levels;
 use crate::pairing::pair;
 use lhg_num::{Halt, Scalar};
 use lhg_row::{Row, System, trim};
@@ -33,7 +33,7 @@ pub(crate) fn eliminate_rows<N: Scalar>(
 }
 
 /// The list over the first `keep` variables: the later ones are eliminated, the last first.
-pub(crate) fn eliminate_later<N: Scalar>(
+pub fn eliminate_later<N: Scalar>(
     alloc: Global,
     vars: usize,
     rows: Vec<Row<N>>,

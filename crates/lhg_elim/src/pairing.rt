@@ -5,14 +5,13 @@ ghost use Rattle.lhg_row.specs.Width.{HasVariable};
 ghost use Rattle.lhg_row.specs.Eliminate as calculus;
 ghost use Rattle.lhg_elim.specs.OneSign.{SharesSign, one_sign};
 
-use crate::sides::is_level;
 use lhg_num::{Scalar, Wide};
-use lhg_row::Row;
 use lhg_row::scaling::{Sense, agree, agree_at, lead_size};
+use lhg_row::{Row, is_level};
 use std::cmp::Ordering;
 
 /// The places of the first two weak rows over variable k that are an equation.
-pub(crate) fn pair<N: Scalar>(rows: &[Row<N>], k: usize) -> Result<Option<(usize, usize)>, Wide>
+pub fn pair<N: Scalar>(rows: &[Row<N>], k: usize) -> Result<Option<(usize, usize)>, Wide>
     requires { HasVariable k rows.now }
     ensures { IsWideBy result (calculus.pair_at N.arithmetic k 0 rows.now) (λ o. o) }
 {

@@ -1,5 +1,5 @@
 // Worked eliminations over x and y, and lists with and without a point.
-ghost use Rattle.std.specs.Prelude.{◌≡◌, IfOk, length};
+ghost use Rattle.std.specs.Prelude.{◌≡◌, ◌≤◌, IfOk, length};
 ghost use Rattle.lhg_row.specs.Width.{AllWide};
 
 use crate::elimination::eliminate_plain;
@@ -53,64 +53,89 @@ fn fan(alloc: Global, count: i64) -> Result<System<Frac>, Halt>
     system(alloc, &lines)
 }
 
+// x <= y and y < 3
+fn below(alloc: Global) -> Result<System<Frac>, Halt>
+    ensures { IfOk result (λ s. s.width ≡ 2) }
+{
+    let lower = (1, -1, Kind::Weak, 0);
+    let upper = (0, 1, Kind::Strict, 3);
+    system(alloc, &[lower, upper])
+}
+
+// x = y and y < 3
+fn fixed(alloc: Global) -> Result<System<Frac>, Halt>
+    ensures { IfOk result (λ s. s.width ≡ 2) }
+{
+    let lower = (1, -1, Kind::Weak, 0);
+    let upper = (-2, 2, Kind::Weak, 0);
+    system(alloc, &[lower, upper, (0, 1, Kind::Strict, 3)])
+}
+
+// That the list has one row once y is eliminated, and it is this one.
+fn leaves(rt: &impl Abort, alloc: Global, sys: &System<Frac>, want: Shown) -> Result<(), Halt>
+    requires { sys.now.width ≡ 2 }
+{
+    let left = eliminate(alloc, sys, 1)?;
+    assert_eq!(rt; left.rows().len(), 1);
+    assert_eq!(rt; left.rows().first().map(shown), Some(want));
+    Ok(())
+}
+
 #[test]
 fn eliminates_y(rt: HostRuntime) -> Result<(), Fail> {
-    let below = system(
-        rt.alloc(),
-        &[(1, -1, Kind::Weak, 0), (0, 1, Kind::Strict, 3)],
-    )?;
-    let fixed = system(
-        rt.alloc(),
-        &[
-            (1, -1, Kind::Weak, 0),
-            (-2, 2, Kind::Weak, 0),
-            (0, 1, Kind::Strict, 3),
-        ],
-    )?;
-    let cases = [
-        (below, (Some((1, 1)), Kind::Strict, (3, 1))),
-        (fixed, (Some((1, 1)), Kind::Strict, (3, 1))),
-        (fan(rt.alloc(), 90)?, (Some((1, 1)), Kind::Weak, (1, 90))),
-    ];
-    for (sys, want) in cases {
-        assert!(rt; sys.vars() == 2);
-        let left = eliminate(rt.alloc(), &sys, 1)?;
-        assert_eq!(rt; left.rows().len(), 1);
-        assert_eq!(rt; left.rows().first().map(shown), Some(want));
-    }
+    let want = (Some((1, 1)), Kind::Strict, (3, 1));
+    leaves(&rt, rt.alloc(), &below(rt.alloc())?, want)?;
+    leaves(&rt, rt.alloc(), &fixed(rt.alloc())?, want)?;
+    Ok(())
+}
+
+#[test]
+fn eliminates_from_fans(rt: HostRuntime) -> Result<(), Fail> {
+    let want = (Some((1, 1)), Kind::Weak, (1, 90));
+    leaves(&rt, rt.alloc(), &fan(rt.alloc(), 90)?, want)?;
     let long = fan(rt.alloc(), 92)?;
     assert_eq!(rt; eliminate(rt.alloc(), &long, 1).err(), Some(Halt::Rows));
     Ok(())
 }
 
+// That so many rows are left over the first variables.
+fn keeps(rt: &impl Abort, alloc: Global, sys: &System<Frac>, keep: usize) -> Result<(), Halt>
+    requires width { sys.now.width ≡ 2 }
+    requires there { keep ≤ 2 }
+{
+    let left = eliminate_last(alloc, sys, keep)?;
+    assert_eq!(rt; left.vars(), keep);
+    assert_eq!(rt; left.rows().len(), keep);
+    Ok(())
+}
+
 #[test]
 fn eliminates_the_last(rt: HostRuntime) -> Result<(), Fail> {
-    let below = system(
-        rt.alloc(),
-        &[(1, -1, Kind::Weak, 0), (0, 1, Kind::Strict, 3)],
-    )?;
-    for (keep, rows) in [(2, 2), (1, 1), (0, 0)] {
-        assert!(rt; below.vars() == 2);
-        let left = eliminate_last(rt.alloc(), &below, keep)?;
-        assert_eq!(rt; left.vars(), keep);
-        assert_eq!(rt; left.rows().len(), rows);
-    }
+    let sys = below(rt.alloc())?;
+    keeps(&rt, rt.alloc(), &sys, 2)?;
+    keeps(&rt, rt.alloc(), &sys, 1)?;
+    keeps(&rt, rt.alloc(), &sys, 0)?;
     Ok(())
+}
+
+// Whether two rows have no point in common.
+fn are_empty(alloc: Global, first: Line, second: Line) -> Result<bool, Halt> {
+    is_empty(alloc, &system(alloc, &[first, second])?)
 }
 
 #[test]
 fn finds_empty_lists(rt: HostRuntime) -> Result<(), Fail> {
     let cases = [
-        ([(1, 0, Kind::Strict, 1), (-1, 0, Kind::Weak, -1)], true),
-        ([(1, 0, Kind::Weak, 1), (-1, 0, Kind::Weak, -1)], false),
-        ([(1, -1, Kind::Weak, 0), (0, 1, Kind::Strict, 3)], false),
-        ([(1, 1, Kind::Weak, 0), (-2, -2, Kind::Weak, -1)], true),
-        ([(0, 0, Kind::Weak, 0), (0, 0, Kind::Strict, 1)], false),
-        ([(0, 0, Kind::Strict, 0), (1, 0, Kind::Weak, 1)], true),
+        ((1, 0, Kind::Strict, 1), (-1, 0, Kind::Weak, -1), true),
+        ((1, 0, Kind::Weak, 1), (-1, 0, Kind::Weak, -1), false),
+        ((1, -1, Kind::Weak, 0), (0, 1, Kind::Strict, 3), false),
+        ((1, 1, Kind::Weak, 0), (-2, -2, Kind::Weak, -1), true),
+        ((0, 0, Kind::Weak, 0), (0, 0, Kind::Strict, 1), false),
+        ((0, 0, Kind::Strict, 0), (1, 0, Kind::Weak, 1), true),
     ];
-    for (lines, want) in cases {
-        let sys = system(rt.alloc(), &lines)?;
-        assert_eq!(rt; is_empty(rt.alloc(), &sys)?, want, "{lines:?}");
+    for (first, second, want) in cases {
+        let empty = are_empty(rt.alloc(), first, second)?;
+        assert_eq!(rt; empty, want, "{first:?} {second:?}");
     }
     Ok(())
 }
@@ -149,17 +174,24 @@ fn slopes(alloc: Global, lines: &[Slope]) -> Result<System<Frac>, Halt>
     trim(alloc, 2, rows)
 }
 
+// The coefficient of y that nothing may be added to.
+fn far() -> Result<Frac, Fail> {
+    Ok(Frac::new(i128::MAX, 1)?)
+}
+
 #[test]
-fn refuses_wide_numbers(rt: HostRuntime) -> Result<(), Fail> {
-    let nothing = Frac::from(0);
-    let upper = (Frac::new(i128::MAX, 1)?, nothing);
-    let lower = (Frac::from(-2), nothing);
-    let r = slope(rt.alloc(), &upper)?;
-    let s = slope(rt.alloc(), &lower)?;
+fn refuses_wide_combinations(rt: HostRuntime) -> Result<(), Fail> {
+    let r = slope(rt.alloc(), &(far()?, Frac::from(0)))?;
+    let s = slope(rt.alloc(), &(Frac::from(-2), Frac::from(0)))?;
     let both = comb(rt.alloc(), &r, &s, 1);
     assert_eq!(rt; both.err(), Some(Halt::Wide));
-    let sys = slopes(rt.alloc(), &[upper, lower])?;
-    assert!(rt; sys.vars() == 2);
+    Ok(())
+}
+
+#[test]
+fn refuses_wide_eliminations(rt: HostRuntime) -> Result<(), Fail> {
+    let nothing = Frac::from(0);
+    let sys = slopes(rt.alloc(), &[(far()?, nothing), (Frac::from(-2), nothing)])?;
     assert_eq!(rt; eliminate(rt.alloc(), &sys, 1).err(), Some(Halt::Wide));
     assert_eq!(rt; is_empty(rt.alloc(), &sys), Err(Halt::Wide));
     Ok(())
@@ -182,33 +214,37 @@ fn fractions(alloc: Global) -> Result<System<Frac>, Fail>
 #[test]
 fn agrees_with_fractions(rt: HostRuntime) -> Result<(), Fail> {
     let sys = fractions(rt.alloc())?;
-    assert!(rt; sys.vars() == 2);
     let left = eliminate(rt.alloc(), &sys, 1)?;
     let plain = eliminate_plain(rt.alloc(), &sys, 1)?;
-    assert_eq!(rt; left.rows().len(), plain.rows().len());
-    for (row, other) in left.rows().iter().zip(plain.rows()) {
+    are_same(&rt, left.rows(), plain.rows());
+    Ok(())
+}
+
+// That two lists have the same rows.
+fn are_same(rt: &impl Abort, rows: &[Row<Frac>], others: &[Row<Frac>]) {
+    assert_eq!(rt; rows.len(), others.len());
+    for (row, other) in rows.iter().zip(others) {
         assert_eq!(rt; shown(row), shown(other));
     }
-    Ok(())
+}
+
+// Two rows with the product of whose denominators fractions are refused.
+fn fine(alloc: Global) -> Result<System<Frac>, Fail>
+    ensures { IfOk result (λ s. s.width ≡ 2) }
+{
+    let far = 18_446_744_073_709_551_616;
+    let nothing = Frac::from(0);
+    let upper = (Frac::new(1, far)?, nothing);
+    let lower = (Frac::new(-1, far + 1)?, nothing);
+    Ok(slopes(alloc, &[upper, lower])?)
 }
 
 // The products of these denominators are refused, and over whole rows none is formed.
 #[test]
 fn answers_where_fractions_are_wide(rt: HostRuntime) -> Result<(), Fail> {
-    let far = 18_446_744_073_709_551_616;
-    let nothing = Frac::from(0);
-    let sys = slopes(
-        rt.alloc(),
-        &[
-            (Frac::new(1, far)?, nothing),
-            (Frac::new(-1, far + 1)?, nothing),
-        ],
-    )?;
-    assert!(rt; sys.vars() == 2);
-    let left = eliminate(rt.alloc(), &sys, 1)?;
+    let sys = fine(rt.alloc())?;
     let want = (Some((1, 1)), Kind::Weak, (0, 1));
-    assert_eq!(rt; left.rows().len(), 1);
-    assert_eq!(rt; left.rows().first().map(shown), Some(want));
+    leaves(&rt, rt.alloc(), &sys, want)?;
     let plain = eliminate_plain(rt.alloc(), &sys, 1);
     assert_eq!(rt; plain.err(), Some(Halt::Wide));
     Ok(())

@@ -9,10 +9,7 @@ use lhg_whole::{Whole, lower};
 use std::alloc::Global;
 
 /// The rows over another number type, each scaled by the type's rule. It halts for `Wide` where an entry has no value of the type.
-pub(crate) fn turned_rows<N: Scalar>(
-    alloc: Global,
-    rows: &[Row<Whole>],
-) -> Result<Vec<Row<N>>, Halt>
+pub fn turned_rows<N: Scalar>(alloc: Global, rows: &[Row<Whole>]) -> Result<Vec<Row<N>>, Halt>
     ensures { IfOk result (λ v. AllTurned N.arithmetic rows.now v.items) }
 {
     let mut out = Vec::with_capacity(alloc, rows.len())?;

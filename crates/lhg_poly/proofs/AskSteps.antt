@@ -1,10 +1,9 @@
 -- What is known of rows is what the calculus tells.
-use Rattle.std.proofs.Common.{◌≡◌, ℕ, ◌+◌, ◌-◌, ◌≤◌, ◌++◌, length, Bool, true, false, Option, Some, None, refl, sym, ap, ◌∙◌, subst, arith, length-append}
+use Rattle.std.proofs.Common.{◌≡◌, ℕ, ◌-◌, ◌≤◌, ◌++◌, length, Bool, true, false, Option, Some, None, refl, sym, ap, ◌∙◌, subst, arith, length-append}
 use Rattle.std.specs.Prelude.{IfSome, unwrap_or}
-use Rattle.lhg_math.specs.Number.{Number}
 use Rattle.lhg_math.specs.Tests.{every_from_all, all_from_every, false_true}
 use Rattle.lhg_num.specs.Arithmetic.{Arithmetic, IsLawful}
-use Rattle.lhg_row.specs.Row.{PlainPoint, holds_at}
+use Rattle.lhg_row.specs.Row.{holds_at}
 use Rattle.lhg_row.specs.Piece.{PlainPiece, InPiece}
 use Rattle.lhg_row.specs.Width.{AllWide}
 use Rattle.lhg_row.specs.HasValue.{IsEmptiness}

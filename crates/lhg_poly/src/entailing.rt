@@ -5,11 +5,11 @@ ghost use Rattle.lhg_row.specs.Width.{AllWide};
 ghost use Rattle.lhg_row.specs.PieceFacts.{IsEntailment, IsInclusion};
 ghost use Rattle.lhg_row.specs.Pieces as calculus;
 
-use crate::asking::asked;
 use crate::polys::Poly;
 use lhg_elim::is_empty;
 use lhg_num::{Halt, Scalar};
 use lhg_row::{Row, copy_rows, negate, trim};
+use lhg_simplex::decide;
 use std::alloc::Global;
 
 /// Whether the row, over the variables of the piece, holds at each point of it.
@@ -59,7 +59,7 @@ pub(crate) fn have_no_point<N: Scalar>(
     requires { AllWide vars rows.items }
     ensures { IsHaltedByRows result (calculus.are_empty N.arithmetic vars rows.items) (λ b. b) }
 {
-    let known = asked(alloc, vars, &rows)?;
+    let known = decide(alloc, vars, &rows)?;
     match known {
         Some(none) => Ok(none),
         None => eliminated(alloc, vars, rows),

@@ -11,6 +11,7 @@ mod projecting;
 #[cfg(test)]
 mod tests;
 
+pub use asking::are_refuted;
 pub use entailing::{entails, includes};
 pub use making::make;
 pub use meeting::{are_apart, closure, meet};

@@ -5,14 +5,16 @@ ghost use Rattle.lhg_num.specs.Marked.{done};
 ghost use Rattle.std.specs.List.{remove};
 ghost use Rattle.lhg_row.specs.Width.{AllWide};
 ghost use Rattle.lhg_row.specs.PieceFacts.{IsMade};
+ghost use Rattle.lhg_row.specs.Eliminate.{row_at};
 ghost use Rattle.lhg_row.specs.Pieces as calculus;
 ghost use Rattle.lhg_simplex.specs.Verdict.{IsAnswer};
 
-use crate::asking::{asked, emptiness};
+use crate::asking::emptiness;
 use crate::entailing::rows_entail;
 use crate::polys::Poly;
 use lhg_num::{Halt, Scalar};
 use lhg_row::{Row, append_rows, trim};
+use lhg_simplex::{Thinning, decide};
 use std::alloc::Global;
 
 /// The piece of the rows, each over `vars` variables: their trimmed list without the rows that the others entail. It is none where they
@@ -29,7 +31,7 @@ pub fn make<N: Scalar>(
     ensures vars { IfOk result (λ o. IfSome o (λ p. p.width ≡ vars)) }
     ensures points { IfOk result (λ o. IsMade N.arithmetic vars rows.items (option_map (λ p. p.lines) o)) }
 {
-    let known = asked(alloc, vars, &rows)?;
+    let known = decide(alloc, vars, &rows)?;
     let none = known.unwrap_or(false);
     if none {
         return Ok(None);
@@ -64,10 +66,11 @@ fn thin<N: Scalar>(alloc: Global, vars: usize, mut rows: Vec<Row<N>>) -> Result<
     requires { AllWide vars rows.items }
     ensures { IsHaltedByRows result (calculus.thin N.arithmetic vars (length rows.items) rows.items) (λ v. v.items) }
 {
+    let mut thinning = Thinning::new(alloc, vars, rows.len())?;
     let mut i = rows.len();
     while i > 0 {
         i -= 1;
-        rows = thin_at(alloc, vars, rows, i)?;
+        rows = thin_at(alloc, vars, rows, i, &mut thinning)?;
     }
     Ok(rows)
 }
@@ -78,17 +81,42 @@ fn thin_at<N: Scalar>(
     vars: usize,
     mut rows: Vec<Row<N>>,
     i: usize,
+    thinning: &mut Thinning,
 ) -> Result<Vec<Row<N>>, Halt>
     requires wide { AllWide vars rows.items }
     requires there { i < length rows.items }
     ensures { IsHaltedByRows result (calculus.thin_at N.arithmetic vars i rows.items) (λ v. v.items) }
 {
-    let others = copy_others(alloc, &rows, i)?;
-    let entailed = rows_entail(alloc, vars, others, &rows[i])?;
+    let entailed = follows(alloc, vars, &rows, i, thinning)?;
     if entailed {
         rows.remove(i);
+        thinning.leave(i);
+    } else {
+        thinning.keep(i)?;
     }
     Ok(rows)
+}
+
+// Whether the other rows entail the one at place i.
+fn follows<N: Scalar>(
+    alloc: Global,
+    vars: usize,
+    rows: &[Row<N>],
+    i: usize,
+    thinning: &mut Thinning,
+) -> Result<bool, Halt>
+    requires wide { AllWide vars rows.now }
+    requires there { i < length rows.now }
+    ensures { IsHaltedByRows result (calculus.entails N.arithmetic vars (remove rows.now i) (row_at rows.now i)) (λ b. b) }
+{
+    let known = thinning.entailed(alloc, vars, rows, i)?;
+    match known {
+        Some(entailed) => Ok(entailed),
+        None => {
+            let others = copy_others(alloc, rows, i)?;
+            rows_entail(alloc, vars, others, &rows[i])
+        }
+    }
 }
 
 // Copies of the rows but the one at place i.

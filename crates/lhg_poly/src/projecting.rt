@@ -4,12 +4,12 @@ ghost use Rattle.lhg_num.specs.Halting.{IsHaltedByRows};
 ghost use Rattle.lhg_row.specs.PieceFacts.{IsProjection};
 ghost use Rattle.lhg_row.specs.Pieces as calculus;
 
-use crate::asking::asked;
 use crate::making::make;
 use crate::polys::Poly;
 use lhg_elim::eliminate_last;
 use lhg_num::{Halt, Scalar};
 use lhg_row::System;
+use lhg_simplex::decide;
 use std::alloc::Global;
 
 /// The points over the first `keep` variables, which are at most all, that some values of the later ones complete, and none
@@ -26,7 +26,7 @@ pub fn project<N: Scalar>(
     ensures vars { IfOk result (λ o. IfSome o (λ p. p.width ≡ keep)) }
     ensures points { IfOk result (λ o. IsProjection N.arithmetic keep (sys.now.width - keep) sys.now.lines (option_map (λ p. p.lines) o)) }
 {
-    let known = asked(alloc, sys.vars(), sys.rows())?;
+    let known = decide(alloc, sys.vars(), sys.rows())?;
     let none = known.unwrap_or(false);
     if none {
         return Ok(None);

@@ -27,7 +27,7 @@ use Rattle.lhg_motion.specs.CrossCalculus.{cross}
 use Rattle.lhg_motion.specs.CrossFact.{IsCross}
 use Rattle.lhg_motion.specs.CrossLaws.{to_middle, cross-exact}
 use Rattle.lhg_union.specs.PolyLists.{lines_of, AllVars, ArePolys}
-use Rattle.lhg_reach.specs.Neighbours.{meet_edge, meet_closure, is_there, is_marked, counts, way_count, ways_count, pair_count, EachWith, IsEntry, IsEdge, IsTold}
+use Rattle.lhg_reach.specs.Neighbours.{meet_edge, meet_closure, is_there, is_marked, counts, way_count, ways_count, pair_count, EachWith, IsEntry, IsFlag, IsEdge, IsTold}
 use Rattle.lhg_reach.proofs.Growing.{then-part}
 
 -- ---- two lists, member by member
@@ -154,6 +154,30 @@ module _ (a : Arithmetic) (n : ℕ) (laws : IsLawful a) (start : PlainPiece) (st
         pieces = λ m. or_right c.pieces _ (ap (λ o. (meet_edge a n start o).pieces) (sym f) ∙ m);
       }
 
+  -- into a piece that is apart from the closure of the way there is no crossing
+  apart-into : (way edge : PlainPiece) → IsPoly a n way → Some edge ≡ (closure a n way).value → ((x : PlainPoint) → length x ≡ n → InPiece start x → ¬ InPiece edge x)
+      → (from flow : PlainPiece) → AllWide n from → AllWide n flow → (cross a n from way start flow).value ≡ None
+  apart-into way edge p e h from flow wf wr = none (cross a n from way start flow).value (cross-exact a n laws from way start flow wf p.wide start_wide wr)
+    where
+      closed : IsClosure a n way (Some edge)
+      closed = subst (λ o. IsClosure a n way o) (sym e) (closure-exact a n way laws p.wide p.point)
+
+      none : (o : Option PlainPiece) → IsCross a n from way start flow o → o ≡ None
+      none None c = refl
+      none (Some piece) c =
+          let x = c.poly.point.point in
+          let l = c.poly.point.wide in
+          let m = to_middle from way start flow x ((c.points x l).0 c.poly.point.holds) in
+          let k : length m.to ≡ n = omega (arith, l, m.legal.same_length) in
+          absurd (h m.to k m.into_in ((closed.points m.to k).1 m.end_edge))
+
+  -- and makes the flag of a piece that crossings lead into
+  pub told-flag : (way : PlainSystem) (edge : Option PlainSystem) (b : Bool) → way.width ≡ n → IsPoly a way.width way.lines → IsEdge a way edge → IsTold a n start edge b → IsFlag a n start way.lines b
+  told-flag way None true w p e t = tt
+  told-flag way None false w p e t = false_true t
+  told-flag way (Some edge) true w p e t = tt
+  told-flag way (Some edge) false w p e t = apart-into way.lines edge.lines (subst (λ m. IsPoly a m way.lines) w p) (subst (λ m. Some edge.lines ≡ (closure a m way.lines).value) w e.1) t
+
   pub told-entry : (way : PlainSystem) (edge : Option PlainSystem) (b : Bool) → way.width ≡ n → IsPoly a way.width way.lines → IsEdge a way edge → IsTold a n start edge b → IsEntry a n start way.lines b
   told-entry way None true w p e t =
       or_right _ _ (marked-part (meet_closure a n start way.lines) (closure a n way.lines) (and_then-part (closure a n way.lines) (meet_edge a n start)) (subst (λ m. is_marked (closure a m way.lines) ≡ true) w e))
@@ -176,6 +200,13 @@ pub told-entries : (a : Arithmetic) (start : PlainSystem) → IsLawful a → All
 told-entries a start laws wide ways edges row v p e t =
     with_both (IsWay a start.width) (IsEdge a) (IsTold a start.width start.lines) (λ (way : PlainSystem) b. IsEntry a start.width start.lines way.lines b)
     (λ way edge b w i k. told-entry a start.width laws start.lines wide way edge b w.0 w.1 i k) ways edges row (are_ways a start.width ways v p) e t
+
+-- the flags of one piece that crossings lead into
+pub told-flags : (a : Arithmetic) (into : PlainSystem) → IsLawful a → AllWide into.width into.lines → (ways : List PlainSystem) (edges : List (Option PlainSystem)) (row : List Bool) → AllVars into.width ways → ArePolys a ways
+    → EachWith (IsEdge a) ways edges → EachWith (IsTold a into.width into.lines) edges row → EachWith (λ (way : PlainSystem) b. IsFlag a into.width into.lines way.lines b) ways row
+told-flags a into laws wide ways edges row v p e t =
+    with_both (IsWay a into.width) (IsEdge a) (IsTold a into.width into.lines) (λ (way : PlainSystem) b. IsFlag a into.width into.lines way.lines b)
+    (λ way edge b w i k. told-flag a into.width laws into.lines wide way edge b w.0 w.1 i k) ways edges row (are_ways a into.width ways v p) e t
 
 -- the edges are over as many variables
 pub edges_over : (a : Arithmetic) (n : ℕ) (ways : List PlainSystem) (edges : List (Option PlainSystem)) → AllVars n ways → EachWith (IsEdge a) ways edges → AllOf (λ o. IfSome o (λ (e : PlainSystem). e.width ≡ n)) edges

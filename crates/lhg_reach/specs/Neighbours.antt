@@ -1,4 +1,4 @@
--- Which pairs of a near piece and a way can have a crossing, how many pairs count, and what does the table of pairs say?
+-- Which pairs of a near piece and a way can have a crossing, how many pairs count, and what is told of pairs?
 use Rattle.std.specs.Prelude.{◌≡◌, ℕ, ◌+◌, Bool, true, false, ◌||◌, cond, List, [], ◌∷◌, length, Option, Some, None}
 use Rattle.std.specs.Global.{Vec}
 use Rattle.lhg_num.specs.Arithmetic.{Arithmetic}
@@ -9,6 +9,7 @@ use Rattle.lhg_row.specs.System.{PlainSystem}
 use Rattle.lhg_row.specs.Width.{AllWide}
 use Rattle.lhg_row.specs.Pieces.{meet, closure}
 use Rattle.lhg_motion.specs.CrossCalculus.{cross}
+use Rattle.lhg_union.specs.PolyLists.{ArePolys}
 
 -- ---- pairs that count
 -- the common points of a piece and of an edge, where there is one
@@ -60,6 +61,11 @@ abbrev pub IsEntry : Arithmetic → ℕ → PlainPiece → PlainPiece → Bool �
 IsEntry a n start way false = (into flow : PlainPiece) → AllWide n into → AllWide n flow → (cross a n start way into flow).value ≡ None
 IsEntry a n start way true = counts a n start way ≡ true
 
+-- a flag: false says that no crossing leads through the way into the piece, wherever it starts; true says nothing
+abbrev pub IsFlag : Arithmetic → ℕ → PlainPiece → PlainPiece → Bool → Type 0
+IsFlag a n into way false = (start flow : PlainPiece) → AllWide n start → AllWide n flow → (cross a n start way into flow).value ≡ None
+IsFlag a n into way true = Unit {0}
+
 -- the entries of one near piece, one for each way
 abbrev pub AreEntries : Arithmetic → List PlainSystem → PlainSystem → Vec Bool → Type 0
 AreEntries a ways start row = EachWith (λ (way : PlainSystem) b. IsEntry a start.width start.lines way.lines b) ways row.items
@@ -79,3 +85,10 @@ abbrev pub IsTold : Arithmetic → ℕ → PlainPiece → Option PlainSystem →
 IsTold a n start None b = b ≡ true
 IsTold a n start (Some edge) false = (x : PlainPoint) → length x ≡ n → InPiece start x → ¬ InPiece edge.lines x
 IsTold a n start (Some edge) true = (is_there (meet a n start edge.lines).value || is_marked (meet a n start edge.lines)) ≡ true
+
+-- ---- all that is kept
+-- the table, and the closures of the ways, which are pieces
+pub record AreKept (a : Arithmetic) (near ways : List PlainSystem) (table : List (Vec Bool)) (edges : List (Option PlainSystem)) : Type 0 where
+  pub pieces : ArePolys a ways
+  pub closures : EachWith (IsEdge a) ways edges
+  pub entries : IsTable a near ways table

@@ -2,6 +2,7 @@
 #![tactic(auto)]
 
 mod found;
+mod kept;
 pub mod laws;
 mod layer;
 mod neighbours;

@@ -1,27 +1,28 @@
-// Which ways can a near piece have a crossing through: those with whose closure it has a common point.
+// Which ways can a crossing from a near piece, or into a known one, lead through: those with whose closure the piece has a common point.
 ghost use Rattle.std.specs.Prelude.{◌≡◌, true, Some, IfOk, IfSome};
 ghost use Rattle.lhg_math.specs.Tests.{AllOf};
 ghost use Rattle.lhg_num.specs.Marked.{done};
 ghost use Rattle.lhg_num.specs.Halting.{IsHaltedByMemory};
 ghost use Rattle.lhg_row.specs.Width.{AllWide};
 ghost use Rattle.lhg_union.specs.PolyLists.{AllVars, ArePolys, HaveVars};
-ghost use Rattle.lhg_reach.specs.Neighbours.{EachWith, IsEdge, IsTable, IsTold};
+ghost use Rattle.lhg_reach.specs.Neighbours.{EachWith, IsEdge, AreKept, IsTold};
 
+use crate::kept::Kept;
 use lhg_num::{Halt, Scalar};
 use lhg_poly::{Poly, are_apart, closure};
 use std::alloc::Global;
 
-/// For each near piece, and for each way, whether the near piece and the closure of the way have a common point. Where a limit is passed on the way to know it,
-/// the entry says that they have. It halts for `Memory` alone.
-pub(crate) fn table_of<N: Scalar>(
+/// The closures of the ways; and for each near piece, and for each way, whether the near piece and the closure of the way have a common point. Where a limit is
+/// passed on the way to know it, the entry says that they have. It halts for `Memory` alone.
+pub(crate) fn kept_of<N: Scalar>(
     alloc: Global,
     near: &[Poly<N>],
     ways: &[Poly<N>],
-) -> Result<Vec<Vec<bool>>, Halt>
+) -> Result<Kept<N>, Halt>
     requires vars { HaveVars near.now ways.now }
     requires ways { ArePolys N.arithmetic ways.now }
     ensures halts { IsHaltedByMemory result (done true) (λ _. true) }
-    ensures table { IfOk result (λ t. IsTable N.arithmetic near.now ways.now t.items) }
+    ensures kept { IfOk result (λ k. AreKept N.arithmetic near.now ways.now k.table.items k.edges.items) }
 {
     let edges = edges_of(alloc, ways)?;
     let mut table = Vec::with_capacity(alloc, near.len())?;
@@ -29,7 +30,7 @@ pub(crate) fn table_of<N: Scalar>(
         let row = entries(alloc, from, &edges)?;
         table.push(row)?;
     }
-    Ok(table)
+    Ok(Kept { edges, table })
 }
 
 // The closures of the ways; none in the place of one that passes a limit.
@@ -58,8 +59,9 @@ fn edge_of<N: Scalar>(alloc: Global, way: &Poly<N>) -> Result<Option<Poly<N>>, H
     }
 }
 
-// The entries of one near piece.
-fn entries<N: Scalar>(
+/// For each closure, whether the piece has a common point with it. Where there is none, or a limit is passed on the way to know it, the entry says that it has one. It
+/// halts for `Memory` alone.
+pub(crate) fn entries<N: Scalar>(
     alloc: Global,
     from: &Poly<N>,
     edges: &[Option<Poly<N>>],
@@ -78,7 +80,7 @@ fn entries<N: Scalar>(
     Ok(row)
 }
 
-// Whether a near piece can have a crossing through the way with this closure.
+// Whether the piece has a common point with the closure, or there is none.
 fn entry<N: Scalar>(alloc: Global, from: &Poly<N>, edge: &Option<Poly<N>>) -> Result<bool, Halt>
     requires { IfSome edge.now (λ e. e.width ≡ from.now.width) }
     ensures halts { IsHaltedByMemory result (done true) (λ _. true) }

@@ -11,14 +11,15 @@ ghost use Rattle.lhg_motion.specs.Reached.{AreInLayers, EachInside, EachPoly};
 ghost use Rattle.lhg_motion.specs.ReachCalculus as calculus;
 ghost use Rattle.lhg_union.specs.PolyLists.{lines_of, AllVars, ArePolys};
 ghost use Rattle.lhg_reach.specs.FoundParts.{plain_founds, plain_reached, AllFoundVars};
-ghost use Rattle.lhg_reach.specs.Neighbours.{IsTable, pair_count};
+ghost use Rattle.lhg_reach.specs.Neighbours.{AreKept, pair_count};
 ghost use Rattle.lhg_reach.specs.Newest.{IsNewest};
 ghost use Rattle.lhg_reach.specs.Searching.{IsSearch, counted_layer};
 ghost use Rattle.lhg_reach.specs.Widths.{AllOverVars, HaveVarsAndFlow, AllThree, HaveThree};
 
 use crate::found::{Found, Reached};
+use crate::kept::Kept;
 use crate::layer::layer;
-use crate::neighbours::table_of;
+use crate::neighbours::kept_of;
 use crate::search::Search;
 use lhg_cross::Tally;
 use lhg_num::{Halt, Scalar};
@@ -58,7 +59,7 @@ pub fn reach<N: Scalar>(
     ensures count { (n : ℕ) → AllOverVars n bad.now near.now flow.now → IfOk result (λ r. tally.new ≤ tally.old + (length bad.now + length r.found.items) * pair_count N.arithmetic n (lines_of near.now) (lines_of bad.now ++ lines_of near.now)) }
 {
     let ways = ways_of(alloc, bad, near)?;
-    let table = table_of(alloc, near, &ways)?;
+    let kept = kept_of(alloc, near, &ways)?;
     let mut search = Search {
         known: copies(alloc, bad)?,
         found: Vec::new(alloc),
@@ -71,7 +72,7 @@ pub fn reach<N: Scalar>(
             alloc,
             near,
             &ways,
-            &table,
+            &kept,
             flow,
             first,
             layers + 1,
@@ -114,7 +115,7 @@ fn grow<N: Scalar>(
     alloc: Global,
     near: &[Poly<N>],
     ways: &[Poly<N>],
-    table: &[Vec<bool>],
+    kept: &Kept<N>,
     flow: &[Row<N>],
     first: usize,
     number: u32,
@@ -126,7 +127,7 @@ fn grow<N: Scalar>(
     requires few_known { length search.old.known.items ≤ piece_limit }
     requires few_ways { length ways.now ≤ piece_limit }
     requires over { HaveThree near.now ways.now search.old.known.items flow.now }
-    requires table { IsTable N.arithmetic near.now ways.now table.now }
+    requires kept { AreKept N.arithmetic near.now ways.now kept.now.table.items kept.now.edges.items }
     requires newest { (n : ℕ) → AllThree n near.now ways.now search.old.known.items flow.now → IsNewest n (lines_of near.now) (lines_of ways.now) (lines_of search.old.known.items) flow.now first }
     ensures step { (n : ℕ) → AllThree n near.now ways.now search.old.known.items flow.now → IsHaltedBy result (and_then (calculus.layer_of N.arithmetic n flow.now (lines_of near.now) (lines_of ways.now) (lines_of search.old.known.items) number) (counted_layer (lines_of search.old.known.items) (plain_founds found.old.items))) (λ more. (more, plain_founds found.new.items)) }
     ensures none { OnOk result (search.new.found.items ≡ []) }
@@ -137,7 +138,7 @@ fn grow<N: Scalar>(
     ensures tally { tally.old ≤ tally.new }
     ensures count { (n : ℕ) → AllThree n near.now ways.now search.old.known.items flow.now → OnOk result (tally.new + first * pair_count N.arithmetic n (lines_of near.now) (lines_of ways.now) ≤ tally.old + length search.old.known.items * pair_count N.arithmetic n (lines_of near.now) (lines_of ways.now)) }
 {
-    layer(alloc, near, ways, table, flow, first, number, search, tally)?;
+    layer(alloc, near, ways, kept, flow, first, number, search, tally)?;
     if search.found.is_empty() {
         return Ok(false);
     }

@@ -5,12 +5,13 @@ use Rattle.lhg_num.specs.Arithmetic.{Arithmetic}
 use Rattle.lhg_num.specs.FracArithmetic.{frac_arithmetic}
 use Rattle.lhg_num.specs.Marked.{Marked, and_then, valued, walk, IsRest}
 use Rattle.lhg_num.specs.MarkedLaws.{IsPart, rest_rest, and_then-rest, walk-step, walk-part}
+use Rattle.lhg_num.specs.PartLaws.{step_part}
+use Rattle.lhg_math.specs.ListFacts.{drop_cons}
 use Rattle.lhg_row.specs.Row.{PlainPoint}
 use Rattle.lhg_row.specs.Piece.{PlainPiece}
 use Rattle.lhg_row.specs.Values.{plus_product, marked_value}
 use Rattle.lhg_row.specs.Eliminate.{eliminate}
 use Rattle.lhg_row.specs.Sample.{value_of, sample}
-use Rattle.lhg_row.proofs.Steps.{drop_cons, step_part}
 
 -- ---- the value
 -- coefficients past the last coordinate are not asked

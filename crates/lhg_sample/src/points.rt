@@ -1,11 +1,7 @@
 // The sample, variable by variable.
-ghost use Rattle.std.specs.Prelude.{◌≡◌, ◌≤◌, length, suc, false, IfOk};
-ghost use Rattle.lhg_math.specs.Number.{nought};
+ghost use Rattle.std.specs.Prelude.{◌≡◌, length, suc, false, IfOk};
 ghost use Rattle.lhg_math.specs.Signs.{is_nought};
-ghost use Rattle.lhg_num.specs.FracArithmetic.{frac_arithmetic};
-ghost use Rattle.lhg_num.specs.Marked.{marked_div};
 ghost use Rattle.lhg_num.specs.Halting.{IsWideBy, IsHaltedByRows};
-ghost use Rattle.lhg_row.specs.Values.{marked_value};
 ghost use Rattle.lhg_row.specs.Column.{coef_at};
 ghost use Rattle.lhg_row.specs.Width.{AllWide};
 ghost use Rattle.lhg_row.specs.PieceFacts.{IsPointOf};
@@ -14,10 +10,10 @@ ghost use Rattle.lhg_sample.specs.Sides.{bounds_from, tighter_from};
 ghost use Rattle.lhg_simplex.specs.BoundView.{plain_bound, plain_bounds};
 
 use crate::bounds::{Side, tighten};
-use lhg_elim::{eliminate, is_lower, is_upper};
-use lhg_num::{DivError, Frac, Halt, Scalar, Wide};
+use lhg_elim::eliminate;
+use lhg_num::{Frac, Halt, Scalar, Wide, divided};
 use lhg_poly::Poly;
-use lhg_row::{Point, Row, System, value_from};
+use lhg_row::{Point, Row, System, first_value, is_lower, is_upper};
 use lhg_simplex::{Bound, chosen};
 use std::alloc::Global;
 
@@ -111,31 +107,11 @@ fn bound_at(row: &Row<Frac>, j: usize, at: &[Frac]) -> Result<Bound, Wide>
     requires there { is_nought (coef_at j row.now) ≡ false }
     ensures { IsWideBy result (calculus.bound_at j at.now row.now) plain_bound }
 {
-    let sum = value(&row.coefs, at)?;
+    let sum = first_value(&row.coefs, at)?;
     let slack = row.bound.sub(&sum)?;
     let quotient = divided(&slack, &row.coefs[j])?;
     Ok(Bound {
         at: quotient,
         strict: row.kind.is_strict(),
     })
-}
-
-// The quotient by a number that is not 0.
-fn divided(x: &Frac, y: &Frac) -> Result<Frac, Wide>
-    requires { is_nought y.now ≡ false }
-    ensures { IsWideBy result (marked_div x.now y.now) (λ q. q) }
-{
-    match x.div(y) {
-        Ok(quotient) => Ok(quotient),
-        Err(DivError::Wide) => Err(Wide),
-        Err(DivError::Zero) => unreachable!(),
-    }
-}
-
-// The value of the terms of the variables that have values.
-fn value(coefs: &[Frac], at: &[Frac]) -> Result<Frac, Wide>
-    requires { length at.now ≤ length coefs.now }
-    ensures { IsWideBy result (marked_value frac_arithmetic nought coefs.now at.now) (λ x. x) }
-{
-    value_from(Frac::zero(), &coefs[..at.len()], at)
 }

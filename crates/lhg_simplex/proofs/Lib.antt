@@ -5,5 +5,6 @@ pub mod BoxSum
 pub mod Edges
 pub mod Farkas
 pub mod MixSteps
+pub mod OtherLaws
 pub mod Singles
 pub mod VerdictLaws

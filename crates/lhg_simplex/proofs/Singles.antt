@@ -1,5 +1,5 @@
 -- What is known of numbers of which exactly one is not 0?
-use Rattle.std.specs.Prelude.{◌≡◌, ◌<◌, ℕ, zero, suc, true, false, not, List, [], ◌∷◌, length, get_or}
+use Rattle.std.specs.Prelude.{◌≡◌, ◌<◌, ℕ, zero, suc, true, false, List, [], ◌∷◌, length, get_or}
 use Rattle.std.proofs.Common.{refl, sym, ap, ◌∙◌, arith}
 use Rattle.lhg_math.specs.Number.{Number, add, mul, nought}
 use Rattle.lhg_math.specs.NumberRing.{add-nought, nought-mul}

@@ -1,5 +1,5 @@
 -- Are the sums that are formed those of the definitions, and what does the answer of a guess say?
-use Rattle.std.specs.Prelude.{◌≡◌, ℕ, zero, suc, Bool, ◌&&◌, List, length, map, nat_eq, Option, Result, Ok, Err, IfOk}
+use Rattle.std.specs.Prelude.{◌≡◌, ℕ, zero, suc, Bool, true, false, ◌&&◌, List, length, map, nat_eq, Option, Result, Ok, Err, IfOk}
 use Rattle.std.proofs.Common.{refl, sym, ap, ◌∙◌, subst}
 use Rattle.std.proofs.lemmas.Bool.{and_parts, eqb-true}
 use Rattle.lhg_math.specs.Number.{Number, nought}
@@ -11,6 +11,7 @@ use Rattle.lhg_num.specs.Halting.{IsWideBy}
 use Rattle.lhg_row.specs.Row.{PlainRow, PlainPoint, holds_at}
 use Rattle.lhg_row.specs.Piece.{PlainPiece, in_piece}
 use Rattle.lhg_row.specs.Width.{AllWide}
+use Rattle.lhg_row.specs.HasValue.{IsEmptiness}
 use Rattle.lhg_row.specs.Column.{coef_at}
 use Rattle.lhg_row.specs.ValueLaws.{marked_value-value}
 use Rattle.lhg_row.specs.Truths.{piece_truth-value}
@@ -54,6 +55,14 @@ one_says n rows x =
 -- multipliers that refute the rows show that they have none
 none_says : (n : ℕ) (rows : PlainPiece) (ms : List Number) → AllWide n rows → IsAnswer n rows (has_none (refutes n rows ms))
 none_says n rows ms w = by_bool (refutes n rows ms) (λ e. rw e (refutes_empty n rows ms w e)) (λ e. rw e tt)
+
+-- a point at which the rows hold
+pub shown-says : (n : ℕ) (rows : PlainPiece) (x : PlainPoint) → length x ≡ n → in_piece rows x ≡ true → IsEmptiness n rows false
+shown-says n rows x e h = record { point = x; wide = e; holds = every_from_all (λ r. holds_at r x) rows h }
+
+-- multipliers that are seen to refute the rows, by the numbers of any type
+pub refuted-says : (a : Arithmetic) (n : ℕ) (rows : PlainPiece) (ms : List Number) → AllWide n rows → true ≡ (marked_refutes a n rows ms).value → IsEmptiness n rows true
+refuted-says a n rows ms w e = refutes_empty n rows ms w (sym (e ∙ marked_refutes-value a n rows ms))
 
 -- the answer of a guess is true of the rows
 pub verdict_says : (n : ℕ) (rows : PlainPiece) (guess : Guess) → AllWide n rows → IsAnswer n rows (verdict n rows guess)

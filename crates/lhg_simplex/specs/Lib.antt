@@ -3,4 +3,5 @@ pub mod Boxes
 pub mod Hint
 pub mod Laws
 pub mod Mixed
+pub mod Others
 pub mod Verdict

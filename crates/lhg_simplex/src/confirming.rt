@@ -7,9 +7,10 @@ ghost use Rattle.lhg_simplex.specs.Mixed.{marked_refutes};
 ghost use Rattle.lhg_simplex.specs.Verdict.{verdict, marked_verdict, IsAnswer};
 
 use crate::guesses::Guess;
+use crate::hints::Hint;
 use crate::mixing::{is_false_bound, mixed_bounds, mixes_strict, none_negative, vanish};
 use lhg_num::{Frac, Scalar, Wide};
-use lhg_row::{Row, System, all_hold};
+use lhg_row::{Point, Row, System, all_hold};
 
 /// What the guess says of the system: `Some(false)` exactly where it is a point of the system, so that there is one, and `Some(true)`
 /// exactly where it is multipliers that refute the system, so that there is none: one number per row, none negative, and the sum of
@@ -23,12 +24,8 @@ pub fn confirm(sys: &System<Frac>, guess: &Guess) -> Result<Option<bool>, Wide>
     confirm_rows(sys.vars(), sys.rows(), guess)
 }
 
-/// The same of rows, each over `vars` variables.
-pub(crate) fn confirm_rows(
-    vars: usize,
-    rows: &[Row<Frac>],
-    guess: &Guess,
-) -> Result<Option<bool>, Wide>
+// The same of rows, each over `vars` variables.
+fn confirm_rows(vars: usize, rows: &[Row<Frac>], guess: &Guess) -> Result<Option<bool>, Wide>
     requires { AllWide vars rows.now }
     ensures { IsWideBy result (marked_verdict vars rows.now guess.now) (λ o. o) }
 {
@@ -65,4 +62,46 @@ fn refute<N: Scalar>(vars: usize, rows: &[Row<N>], ms: &[N]) -> Result<bool, Wid
     }
     let bound = mixed_bounds(ms, rows)?;
     Ok(is_false_bound(mixes_strict(ms, rows), &bound))
+}
+
+/// The answer of a hint, and none where a number that tells is refused.
+pub(crate) fn told<N: Scalar>(vars: usize, rows: &[Row<N>], hint: &Hint<N>) -> Option<bool>
+    requires { AllWide vars rows.now }
+    ensures { IsAnswer vars rows.now result }
+{
+    match hint {
+        Hint::Point(point) => {
+            if point.at.len() == vars {
+                shown(vars, rows, point)
+            } else {
+                None
+            }
+        }
+        Hint::Multipliers(ms) => refuted(vars, rows, ms),
+        Hint::Undecided => None,
+    }
+}
+
+// That the rows have a point, where it is this one.
+fn shown<N: Scalar>(vars: usize, rows: &[Row<N>], point: &Point<N>) -> Option<bool>
+    requires wide { AllWide vars rows.now }
+    requires same { length point.now ≡ vars }
+    ensures { IsAnswer vars rows.now result }
+{
+    match all_hold(rows, point) {
+        Ok(true) => Some(false),
+        Ok(false) => None,
+        Err(_) => None,
+    }
+}
+
+/// That the rows have no point, where the multipliers refute them.
+pub(crate) fn refuted<N: Scalar>(vars: usize, rows: &[Row<N>], ms: &[N]) -> Option<bool>
+    requires { AllWide vars rows.now }
+    ensures { IsAnswer vars rows.now result }
+{
+    match refute(vars, rows, ms) {
+        Ok(true) => Some(true),
+        _ => None,
+    }
 }

@@ -6,13 +6,13 @@ ghost use Rattle.lhg_simplex.specs.Hint.{HaltsForMemory};
 ghost use Rattle.lhg_simplex.specs.Verdict.{IsAnswer};
 
 use crate::boxes::{are_boxed, box_guess};
-use crate::confirming::confirm_rows;
+use crate::confirming::told;
 use crate::guesses::Guess;
-use crate::lifting::lift;
+use crate::hints::Hint;
 use crate::reading::{point, refutation};
 use crate::solving::{End, Search};
-use crate::tableau::Tableau;
-use lhg_num::{Frac, Halt};
+use crate::whole::Entry;
+use lhg_num::{Frac, Halt, Scalar};
 use lhg_row::{Row, System};
 use std::alloc::Global;
 
@@ -35,49 +35,58 @@ pub fn guess(alloc: Global, sys: &System<Frac>) -> Result<Guess, Halt>
     }
 }
 
-/// The same of rows, each over `vars` variables.
-pub(crate) fn guess_rows(alloc: Global, vars: usize, rows: &[Row<Frac>]) -> Result<Guess, Halt>
+// The same of rows, each over `vars` variables.
+fn guess_rows(alloc: Global, vars: usize, rows: &[Row<Frac>]) -> Result<Guess, Halt>
     requires { AllWide vars rows.now }
     ensures { HaltsForMemory result }
 {
-    let Some(wide) = vars.checked_add(3) else {
-        return Ok(Guess::Undecided);
-    };
-    let Some(mut table) = Tableau::new(alloc, rows.len(), wide)? else {
-        return Ok(Guess::Undecided);
-    };
-    let mut multiples = Vec::with_capacity(alloc, rows.len())?;
-    for i in 0..rows.len() {
-        match lift(&mut table, i, &rows[i]) {
-            Some(m) => multiples.push(m)?,
-            None => return Ok(Guess::Undecided),
-        }
+    match hint(alloc, vars, rows)? {
+        Hint::Point(point) => Ok(Guess::Point(point)),
+        Hint::Multipliers(ms) => Ok(Guess::Multipliers(ms)),
+        Hint::Undecided => Ok(Guess::Undecided),
     }
-    let mut search = Search::new(alloc, vars, table)?;
-    match search.run() {
-        Some(End::Point) => point(alloc, &search),
-        Some(End::Refuted(r)) => refutation(alloc, &search, r, &multiples),
-        None => Ok(Guess::Undecided),
+}
+
+// A guess in the numbers of the rows, by whole numbers of 64 bits, and by those of 128 bits where one of them grows too large.
+fn hint<N: Scalar>(alloc: Global, vars: usize, rows: &[Row<N>]) -> Result<Hint<N>, Halt>
+    requires { AllWide vars rows.now }
+    ensures { HaltsForMemory result }
+{
+    match searched::<N, i64>(alloc, vars, rows)? {
+        Some(hint) => Ok(hint),
+        None => match searched::<N, i128>(alloc, vars, rows)? {
+            Some(hint) => Ok(hint),
+            None => Ok(Hint::Undecided),
+        },
+    }
+}
+
+// The same by one type of whole numbers. It is none where one of them grows too large.
+fn searched<N: Scalar, W: Entry>(
+    alloc: Global,
+    vars: usize,
+    rows: &[Row<N>],
+) -> Result<Option<Hint<N>>, Halt>
+    requires { AllWide vars rows.now }
+    ensures { HaltsForMemory result }
+{
+    let Some(mut search) = Search::<W>::new(alloc, vars, rows.len())? else {
+        return Ok(None);
+    };
+    match search.run(rows) {
+        Some(End::Point) => Ok(Some(point(alloc, &mut search)?)),
+        Some(End::Refuted(i)) => Ok(Some(refutation(alloc, &search, i)?)),
+        Some(End::Many) => Ok(Some(Hint::Undecided)),
+        None => Ok(None),
     }
 }
 
 /// Whether the rows, each over `vars` variables, have no point, where a guess tells. It halts for `Memory` alone.
-pub fn decide(alloc: Global, vars: usize, rows: &[Row<Frac>]) -> Result<Option<bool>, Halt>
+pub fn decide<N: Scalar>(alloc: Global, vars: usize, rows: &[Row<N>]) -> Result<Option<bool>, Halt>
     requires { AllWide vars rows.now }
     ensures memory { HaltsForMemory result }
     ensures points { IfOk result (IsAnswer vars rows.now) }
 {
-    let guess = guess_rows(alloc, vars, rows)?;
-    Ok(told(vars, rows, &guess))
-}
-
-// The answer of a guess, and none where a number that tells is refused.
-fn told(vars: usize, rows: &[Row<Frac>], guess: &Guess) -> Option<bool>
-    requires { AllWide vars rows.now }
-    ensures { IsAnswer vars rows.now result }
-{
-    match confirm_rows(vars, rows, guess) {
-        Ok(answer) => answer,
-        Err(_) => None,
-    }
+    let hint = hint(alloc, vars, rows)?;
+    Ok(told(vars, rows, &hint))
 }

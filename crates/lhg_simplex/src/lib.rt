@@ -9,17 +9,21 @@ mod boxes;
 mod confirming;
 mod guesses;
 mod guessing;
+mod hints;
 pub mod laws;
 mod lifting;
 mod mixing;
+mod orders;
 mod reading;
 mod solving;
 mod tableau;
 #[cfg(test)]
 mod tests;
+mod thinning;
 mod whole;
 
 pub use bounds::{Bound, chosen};
 pub use confirming::confirm;
 pub use guesses::Guess;
 pub use guessing::{decide, guess};
+pub use thinning::Thinning;

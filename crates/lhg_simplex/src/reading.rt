@@ -1,100 +1,135 @@
 // What a search that has ended tells.
-ghost use Rattle.std.specs.Prelude.{◌≡◌, ◌+◌, length};
+ghost use Rattle.std.specs.Prelude.{◌≡◌, ◌<◌, ◌+◌, vec_len, length};
 ghost use Rattle.lhg_simplex.specs.Hint.{HaltsForMemory};
 
-use crate::guesses::Guess;
+use crate::hints::{Hint, Part};
 use crate::solving::Search;
-use crate::whole::{cross, negative, over, signed};
-use lhg_num::{Frac, Halt, Scalar, gcd};
+use crate::whole::{Entry, common, cross, negative};
+use lhg_num::{Frac, Halt, Scalar};
 use lhg_row::Point;
 use std::alloc::Global;
 
-/// The multipliers of the rows whose sum is row r, where row i of the table began as a multiple of a row of fractions.
-pub(crate) fn refutation(
+/// The multipliers of the rows whose sum is row i, written over the names beside.
+pub(crate) fn refutation<N: Scalar, W: Entry>(
     alloc: Global,
-    search: &Search,
-    r: usize,
-    multiples: &[i128],
-) -> Result<Guess, Halt>
+    search: &Search<W>,
+    i: usize,
+) -> Result<Hint<N>, Halt>
     ensures { HaltsForMemory result }
 {
-    let mut out = Vec::from_elem(alloc, Frac::zero(), multiples.len())?;
-    let vars = search.beside.len();
-    if r >= search.own.len() {
-        return Ok(Guess::Undecided);
-    }
-    let row = search.table.row(r);
-    let mut told = tell(&mut out, multiples, search.own[r], vars, row[vars + 2]);
-    for j in 0..vars {
-        if row[j] != 0 && told.is_some() {
-            told = tell(&mut out, multiples, search.beside[j], vars, row[j]);
+    let Some(parts) = parts(alloc, search, i)? else {
+        return Ok(Hint::Undecided);
+    };
+    let mut out = Vec::from_elem(alloc, N::zero(), search.multiples.len())?;
+    for part in &parts {
+        if part.row < out.len() {
+            out[part.row] = part.by;
         }
     }
-    match told {
-        Some(()) => Ok(Guess::Multipliers(out)),
-        None => Ok(Guess::Undecided),
-    }
+    Ok(Hint::Multipliers(out))
 }
 
-// Puts a number that stands for a slack into its place.
-fn tell(out: &mut [Frac], multiples: &[i128], name: usize, vars: usize, x: i128) -> Option<()> {
-    let i = name.checked_sub(vars)?;
-    if i >= multiples.len() || i >= out.len() {
-        return None;
-    }
-    let product = x.checked_mul(multiples[i])?;
-    out[i] = Frac::new(product, 1).ok()?;
-    Some(())
-}
-
-/// The point at which the names beside are 0, and the small number is as large as the slacks allow, but at most 1.
-pub(crate) fn point(alloc: Global, search: &Search) -> Result<Guess, Halt>
+/// The rows whose sum is row i, written over the names beside. It is none where a number is no number of the rows.
+pub(crate) fn parts<N: Scalar, W: Entry>(
+    alloc: Global,
+    search: &Search<W>,
+    i: usize,
+) -> Result<Option<Vec<Part<N>>>, Halt>
     ensures { HaltsForMemory result }
 {
     let vars = search.beside.len();
-    let Some((p, q)) = small(search) else {
-        return Ok(Guess::Undecided);
+    let Some(own) = part(search, vars.saturating_add(i), search.turned[vars + 2]) else {
+        return Ok(None);
     };
-    let mut at = Vec::from_elem(alloc, Frac::zero(), vars)?;
-    for i in 0..search.own.len() {
-        let name = search.own[i];
-        if name < vars {
-            match coordinate(search.table.row(i), vars, p, q) {
-                Some(x) => at[name] = x,
-                None => return Ok(Guess::Undecided),
+    let mut out = Vec::with_capacity(alloc, vars + 1)?;
+    out.push(own)?;
+    for c in 0..vars {
+        if search.turned[c].size() != 0 {
+            match part(search, search.beside[c], search.turned[c]) {
+                Some(next) => out.push(next)?,
+                None => return Ok(None),
             }
         }
     }
-    Ok(Guess::Point(Point { at }))
+    Ok(Some(out))
 }
 
-// The small number as a fraction.
-fn small(search: &Search) -> Option<(i128, i128)> {
+// The row whose slack has this name, with its multiplier.
+fn part<N: Scalar, W: Entry>(search: &Search<W>, name: usize, x: W) -> Option<Part<N>> {
+    let row = name.checked_sub(search.beside.len())?;
+    let multiple = search.multiples.get(row)?;
+    let by = number(x.wide().checked_mul(multiple.wide())?, 1)?;
+    Some(Part { row, by })
+}
+
+/// The point at which the names beside are 0, and the small number is as large as the slacks allow, but at most 1.
+pub(crate) fn point<N: Scalar, W: Entry>(
+    alloc: Global,
+    search: &mut Search<W>,
+) -> Result<Hint<N>, Halt>
+    ensures { HaltsForMemory result }
+{
+    let Some((p, q)) = small(search) else {
+        return Ok(Hint::Undecided);
+    };
     let vars = search.beside.len();
-    let mut p = 1;
-    let mut q = 1;
-    for i in 0..search.own.len() {
-        let row = search.table.row(i);
-        let part = row[vars + 1];
-        if search.own[i] >= vars && part < 0 {
+    let mut at = Vec::with_capacity(alloc, vars)?;
+    for k in 0..vars {
+        let row = search.table.row(k);
+        match coordinate(row[vars], row[vars + 1], row[vars + 2], p, q) {
+            Some(x) => at.push(x)?,
+            None => return Ok(Hint::Undecided),
+        }
+    }
+    Ok(Hint::Point(Point { at }))
+}
+
+// The small number as a fraction. It is 1 where no value has a part, since the slack of a strict row is positive then.
+fn small<W: Entry>(search: &mut Search<W>) -> Option<(W, W)> {
+    let mut p = W::one();
+    let mut q = W::one();
+    if !has_part(search) {
+        return Some((p, q));
+    }
+    for t in 0..search.order.len() {
+        let i = search.order.at(t)?;
+        if i >= search.multiples.len() {
+            return None;
+        }
+        let (slack, part) = search.slack_of(i)?;
+        if part.is_negative() {
             let step = negative(part)?;
-            let bound = row[vars];
-            if cross(bound, q, p, step)? < 0 {
-                let g = signed(gcd(bound.unsigned_abs(), step.unsigned_abs()))?;
-                p = over(bound, g);
-                q = over(step, g);
+            if cross(slack, q, p, step)?.is_negative() {
+                let g = common(slack, step)?;
+                p = slack.over(g);
+                q = step.over(g);
             }
         }
     }
     Some((p, q))
 }
 
-// The value of the name of a row.
-fn coordinate(row: &[i128], vars: usize, p: i128, q: i128) -> Option<Frac>
-    requires { vars + 3 ≡ length row.now }
-{
-    let part = negative(row[vars + 1])?;
-    let top = cross(row[vars], q, part, p)?;
-    let bottom = row[vars + 2].checked_mul(q)?;
-    Frac::new(top, bottom).ok()
+// Whether the value of some variable has a part.
+fn has_part<W: Entry>(search: &Search<W>) -> bool {
+    let vars = search.beside.len();
+    for k in 0..vars {
+        if search.table.row(k)[vars + 1].size() != 0 {
+            return true;
+        }
+    }
+    false
+}
+
+// The value of a variable with its part.
+fn coordinate<N: Scalar, W: Entry>(value: W, part: W, scale: W, p: W, q: W) -> Option<N> {
+    if part.size() == 0 {
+        return number(value.wide(), scale.wide());
+    }
+    let top = cross(value, q, negative(part)?, p)?;
+    number(top.wide(), scale.times(q)?.wide())
+}
+
+// The quotient as a number of the rows.
+fn number<N: Scalar>(top: i128, bottom: i128) -> Option<N> {
+    N::of_frac(&Frac::new(top, bottom).ok()?)
 }

@@ -1,28 +1,23 @@
-// A tableau of whole numbers.
-//
-// Each row is an equation: the sum of its entries times the names beside, and its factor times its own name, is its bound
-// plus its part of a positive number that is smaller than all others. The names are the variables, which are free, and one slack per row of the
-// system, which is not negative. The names beside are 0. Strict rows begin with the part -1. Each row has a factor of
-// its own, which is positive, so that a row in which a name does not occur stays as it is when the name moves.
+// Tables of whole numbers.
 ghost use Rattle.std.specs.Prelude.{◌≡◌, ◌<◌, ◌≤◌, ◌+◌, ◌*◌, vec_len, length, IfOk, IfSome};
 ghost use Rattle.lhg_simplex.specs.Hint.{HaltsForMemory};
 
-use crate::whole::{cross, negative, over, signed};
-use lhg_num::{Halt, gcd};
+use crate::whole::{Entry, common, cross, negative, reduce};
+use lhg_num::Halt;
 use std::alloc::Global;
 
-/// The equations, row by row: an entry for each name beside, then the bound, the small part and the factor.
+/// Rows of entries, one behind the other.
 #[derive(Drop)]
-pub(crate) struct Tableau {
-    cells: Vec<i128>,
+pub(crate) struct Table<W: Entry> {
+    cells: Vec<W>,
     tall: usize,
     wide: usize,
     ghost full: { vec_len cells ≡ tall * wide },
 }
 
-impl Tableau {
-    /// A tableau of zeros, where it has at most 2^64 - 1 places.
-    pub(crate) fn new(alloc: Global, tall: usize, wide: usize) -> Result<Option<Tableau>, Halt>
+impl<W: Entry> Table<W> {
+    /// A table of zeros, where it has at most 2^64 - 1 places.
+    pub(crate) fn new(alloc: Global, tall: usize, wide: usize) -> Result<Option<Table<W>>, Halt>
         ensures memory { HaltsForMemory result }
         ensures tall { IfOk result (λ o. IfSome o (λ t. t.tall ≡ tall)) }
         ensures wide { IfOk result (λ o. IfSome o (λ t. t.wide ≡ wide)) }
@@ -30,26 +25,12 @@ impl Tableau {
         let Some(count) = tall.checked_mul(wide) else {
             return Ok(None);
         };
-        let cells = Vec::from_elem(alloc, 0i128, count)?;
-        Ok(Some(Tableau { cells, tall, wide }))
-    }
-
-    /// The number of rows.
-    pub(crate) fn tall(&self) -> usize
-        ensures { result ≡ self.now.tall }
-    {
-        self.tall
-    }
-
-    /// The number of columns.
-    pub(crate) fn wide(&self) -> usize
-        ensures { result ≡ self.now.wide }
-    {
-        self.wide
+        let cells = Vec::from_elem(alloc, W::zero(), count)?;
+        Ok(Some(Table { cells, tall, wide }))
     }
 
     /// Row i.
-    pub(crate) fn row(&self, i: usize) -> &[i128]
+    pub(crate) fn row(&self, i: usize) -> &[W]
         requires { i < self.now.tall }
         ensures { length result.now ≡ self.now.wide }
     {
@@ -58,7 +39,7 @@ impl Tableau {
     }
 
     /// Sets an entry of row i.
-    pub(crate) fn put(&mut self, i: usize, j: usize, x: i128)
+    pub(crate) fn put(&mut self, i: usize, j: usize, x: W)
         requires row_in { i < self.old.tall }
         requires col_in { j < self.old.wide }
         ensures tall { self.new.tall ≡ self.old.tall }
@@ -67,38 +48,51 @@ impl Tableau {
         self.cells[i * self.wide + j] = x;
     }
 
-    /// Moves the name beside at column c into row r, and the name of the row beside. It is none where a number grows too large.
-    pub(crate) fn pivot(&mut self, r: usize, c: usize, turned: &mut [i128]) -> Option<()>
-        requires row_in { r < self.old.tall }
+    /// Makes all entries 0.
+    pub(crate) fn clear(&mut self)
+        ensures tall { self.new.tall ≡ self.old.tall }
+        ensures wide { self.new.wide ≡ self.old.wide }
+    {
+        clear(&mut self.cells)
+    }
+
+    /// Turns row i, whose last entry is 0 or -1, into the one that says the opposite. It is none where a number grows too large.
+    pub(crate) fn oppose(&mut self, i: usize) -> Option<()>
+        requires { i < self.old.tall }
+        ensures tall { self.new.tall ≡ self.old.tall }
+        ensures wide { self.new.wide ≡ self.old.wide }
+    {
+        let from = i * self.wide;
+        oppose(&mut self.cells[from..from + self.wide])
+    }
+
+    /// Takes the name at column c out of each row, by the row that is solved for it. It is none where a number grows too large.
+    pub(crate) fn take_out(&mut self, c: usize, turned: &[W]) -> Option<()>
         requires col_in { c + 1 < self.old.wide }
-        requires room { length turned.old ≡ self.old.wide }
+        requires room { length turned.now ≡ self.old.wide }
         ensures tall { self.new.tall ≡ self.old.tall }
         ensures wide { self.new.wide ≡ self.old.wide }
     {
         let wide = self.wide;
-        let from = r * wide;
-        turn(&mut self.cells[from..from + wide], c)?;
-        turned.copy_from_slice(&self.cells[from..from + wide]);
         for i in 0..self.tall {
-            if i != r {
-                let start = i * wide;
-                combine(&mut self.cells[start..start + wide], turned, c)?;
-            }
+            let start = i * wide;
+            combine(&mut self.cells[start..start + wide], turned, c)?;
         }
         Some(())
     }
 }
 
-// The row solved for the name at column c in place of its own.
-fn turn(row: &mut [i128], c: usize) -> Option<()>
+/// Solves the row for the name at column c in place of its own.
+pub(crate) fn turn<W: Entry>(row: &mut [W], c: usize) -> Option<()>
     requires { c + 1 < length row.old }
+    ensures { length row.new ≡ length row.old }
 {
     let last = row.len() - 1;
     let factor = row[last];
     let p = row[c];
     row[c] = factor;
     row[last] = p;
-    if p < 0 {
+    if p.is_negative() {
         for j in 0..row.len() {
             row[j] = negative(row[j])?;
         }
@@ -106,43 +100,48 @@ fn turn(row: &mut [i128], c: usize) -> Option<()>
     Some(())
 }
 
+// Makes all numbers 0.
+fn clear<W: Entry>(xs: &mut [W])
+    ensures { length xs.new ≡ length xs.old }
+{
+    for i in 0..xs.len() {
+        xs[i] = W::zero();
+    }
+}
+
+// The row that says the opposite.
+fn oppose<W: Entry>(row: &mut [W]) -> Option<()>
+    ensures { length row.new ≡ length row.old }
+{
+    for j in 0..row.len() {
+        row[j] = negative(row[j])?;
+    }
+    if let Some(last) = row.len().checked_sub(1) {
+        row[last] = row[last].less(W::one())?;
+    }
+    Some(())
+}
+
 // The row without the name at column c, by the row that was solved for it.
-fn combine(row: &mut [i128], turned: &[i128], c: usize) -> Option<()>
+fn combine<W: Entry>(row: &mut [W], turned: &[W], c: usize) -> Option<()>
     requires there { c + 1 < length row.old }
     requires same { length turned.now ≡ length row.old }
+    ensures { length row.new ≡ length row.old }
 {
     let last = row.len() - 1;
     let f = row[c];
-    if f == 0 {
+    if f.size() == 0 {
         return Some(());
     }
     let p = turned[last];
-    let g = signed(gcd(p.unsigned_abs(), f.unsigned_abs()))?;
-    let p = over(p, g);
-    let f = over(f, g);
-    row[c] = 0;
+    let g = common(p, f)?;
+    let p = p.over(g);
+    let f = f.over(g);
+    row[c] = W::zero();
     for j in 0..last {
         row[j] = cross(row[j], p, f, turned[j])?;
     }
-    row[last] = row[last].checked_mul(p)?;
-    reduce(row)
-}
-
-// Divides the row by the greatest common divisor of its entries.
-fn reduce(row: &mut [i128]) -> Option<()> {
-    let mut g = match row.last() {
-        Some(factor) => factor.unsigned_abs(),
-        None => 1,
-    };
-    for x in &*row {
-        if g == 1 {
-            return Some(());
-        }
-        g = gcd(g, x.unsigned_abs());
-    }
-    let g = signed(g)?;
-    for j in 0..row.len() {
-        row[j] = over(row[j], g);
-    }
-    Some(())
+    row[last] = row[last].times(p)?;
+    let factor = row[last];
+    reduce(row, factor)
 }

@@ -3,6 +3,8 @@ use Rattle.std.proofs.Common.{◌≡◌, ℕ, ◌+◌, ◌<◌, List, [], ◌∷
 use Rattle.lhg_num.specs.Arithmetic.{Arithmetic}
 use Rattle.lhg_num.specs.Marked.{Marked, and_then, valued, IsRest}
 use Rattle.lhg_num.specs.MarkedLaws.{IsPart, IsBuilt, and_then-part, and_then-rest, part_part}
+use Rattle.lhg_num.specs.PartLaws.{then-part}
+use Rattle.lhg_math.specs.ListFacts.{drop_cons}
 use Rattle.lhg_row.specs.Row.{PlainRow}
 use Rattle.lhg_row.specs.Piece.{PlainPiece}
 use Rattle.lhg_row.specs.Moves.{negated}
@@ -14,7 +16,6 @@ use Rattle.lhg_row.specs.System.{PlainSystem}
 use Rattle.lhg_row.specs.Width.{AllWide}
 use Rattle.lhg_row.specs.EntailLaws.{more-wide}
 use Rattle.lhg_row.specs.MakeLaws.{make-empty, make-thin}
-use Rattle.lhg_row.proofs.Steps.{drop_cons, then-part}
 use Rattle.lhg_union.specs.PolyLists.{lines_of, AllVars}
 use Rattle.lhg_union.proofs.ListFacts.{listed-append}
 use Rattle.lhg_union.proofs.GatherSteps.{more-part, more-step}

@@ -4,12 +4,12 @@ use Rattle.std.proofs.lemmas.List.{drop_all}
 use Rattle.lhg_num.specs.Arithmetic.{Arithmetic}
 use Rattle.lhg_num.specs.Marked.{Marked, and_then, valued}
 use Rattle.lhg_num.specs.MarkedLaws.{IsPart, IsBuilt}
+use Rattle.lhg_math.specs.ListFacts.{drop_cons}
 use Rattle.lhg_row.specs.Piece.{PlainPiece}
 use Rattle.lhg_row.specs.System.{PlainSystem}
 use Rattle.lhg_row.specs.Eliminate.{each_joined}
 use Rattle.lhg_row.specs.Pieces.{meet}
 use Rattle.lhg_row.specs.Lists.{listed, counted_pieces, meet_each, meet_lists}
-use Rattle.lhg_row.proofs.Steps.{drop_cons}
 use Rattle.lhg_union.specs.PolyLists.{lines_of, AllVars}
 use Rattle.lhg_union.proofs.ListFacts.{listed-append, lines_of-append, all_at}
 use Rattle.lhg_union.proofs.GatherSteps.{more-part, more-step, counted-part, joined-part}

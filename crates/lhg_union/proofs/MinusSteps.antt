@@ -4,11 +4,11 @@ use Rattle.std.proofs.lemmas.List.{drop_all}
 use Rattle.lhg_num.specs.Arithmetic.{Arithmetic}
 use Rattle.lhg_num.specs.Marked.{Marked, walk, IsRest}
 use Rattle.lhg_num.specs.MarkedLaws.{IsPart, IsBuilt, rest_self, walk-step, walk-part}
+use Rattle.lhg_math.specs.ListFacts.{drop_cons}
 use Rattle.lhg_row.specs.Piece.{PlainPiece}
 use Rattle.lhg_row.specs.System.{PlainSystem}
 use Rattle.lhg_row.specs.Eliminate.{each_joined}
 use Rattle.lhg_row.specs.Lists.{minus_piece, minus_one, minus}
-use Rattle.lhg_row.proofs.Steps.{drop_cons}
 use Rattle.lhg_union.specs.PolyLists.{lines_of, AllVars}
 use Rattle.lhg_union.proofs.ListFacts.{lines_of-append, all_at}
 use Rattle.lhg_union.proofs.GatherSteps.{more-step}

@@ -1,18 +1,14 @@
--- What do the pieces of a region become where the list of one location is written?
-use Rattle.std.proofs.Common.{◌≡◌, ℕ, ◌<◌, List, [], ◌∷◌, ◌++◌, length, get_or, set, Result, Ok, Err, sym, ap, ◌∙◌, subst, arith}
+-- What do the pieces of a region become where the list of one location is written, and where its lists are copied?
+use Rattle.std.proofs.Common.{◌≡◌, ℕ, ◌+◌, ◌<◌, ◌≤◌, List, [], ◌∷◌, ◌++◌, length, take, get_or, set, Result, Ok, Err, sym, ap, ◌∙◌, subst, arith}
 use Rattle.std.specs.Global.{Vec}
 use Rattle.std.specs.Prelude.{IfOk, OnErr}
-use Rattle.std.proofs.lemmas.List.{get_or-map, map-set, get_or-set_same, length-map}
+use Rattle.std.proofs.lemmas.List.{get_or-map, map-set, get_or-set_same, length-map, map-append, take_all}
 use Rattle.std.proofs.Math.Seq.{map-set_same}
 use Rattle.lhg_num.specs.Marked.{Marked}
 use Rattle.lhg_num.specs.Halting.{IsWideBy}
 use Rattle.lhg_row.specs.System.{PlainSystem}
 use Rattle.lhg_union.specs.Regions.{polys_of, polys_at}
-
--- what is exact of the value of the calculus is exact of an answer that is this value
-pub wide_exact : {T E A : Type 0} (r : Result T E) (m : Marked A) (f : T → A) (P : A → Type 0) → IsWideBy r m f → P m.value → IfOk r (λ x. P (f x))
-wide_exact (Ok x) m f P h p = subst P (sym h) p
-wide_exact (Err e) m f P h p = tt
+use Rattle.lhg_union.proofs.ListFacts.{taken-step}
 
 -- what holds anyway holds of a refusal
 pub on_err : {T E : Type 0} (r : Result T E) (P : Type 0) → P → OnErr r P
@@ -38,3 +34,15 @@ module _ (xs : List (Vec PlainSystem)) (k : ℕ) (v : Vec PlainSystem) (v_is : v
     at-more p e =
         ap (λ ys. get_or ys k []) (set-more p e)
         ∙ get_or-set_same (polys_of xs) k (polys_at xs k ++ p ∷ []) [] (omega (arith, length-map xs (λ (w : Vec PlainSystem). w.items)))
+
+module _ (xs ws : List (Vec PlainSystem)) (same : ws ≡ xs) (i : ℕ) (out : List (Vec PlainSystem)) (copied : polys_of out ≡ take i (polys_of xs)) where
+  -- the lists before place i are copied, and that of place i is copied next
+  pub copied-step : (x : Vec PlainSystem) → x ≡ get_or ws i x → i < length ws → (more : List (Vec PlainSystem)) (y : Vec PlainSystem) → more ≡ out ++ y ∷ [] → y.items ≡ x.items → polys_of more ≡ take (i + 1) (polys_of xs)
+  copied-step x is there more y e k =
+      let items : Vec PlainSystem → List PlainSystem = λ v. v.items in
+      taken-step (polys_of xs) i x.items (ap items is ∙ sym (get_or-map items ws i x x.items there) ∙ ap (λ zs. get_or (polys_of zs) i x.items) same)
+      (omega (arith, there, length-map xs items, ap length same)) (polys_of out) (polys_of more) y.items copied (ap polys_of e ∙ map-append items out (y ∷ [])) k
+
+  -- all are copied
+  pub copied-end : length ws ≤ i → polys_of out ≡ polys_of xs
+  copied-end past = copied ∙ take_all i (polys_of xs) (omega (arith, past, length-map xs (λ (v : Vec PlainSystem). v.items), ap length same))

@@ -1,16 +1,19 @@
 // Regions: a list of pieces for each location.
 ghost use Rattle.std.specs.Prelude.{◌≡◌, ◌↔◌, ◌<◌, ◌++◌, ◌∷◌, [], true, length, set, IfOk, OnOk, OnErr};
-ghost use Rattle.lhg_num.specs.Halting.{IsHaltedByPieces, IsWideBy};
+ghost use Rattle.lhg_num.specs.Marked.{done};
+ghost use Rattle.lhg_num.specs.Halting.{IsHaltedByMemory, IsHaltedByPieces, IsWideBy};
 ghost use Rattle.lhg_row.specs.Piece.{in_some};
 ghost use Rattle.lhg_row.specs.Lists.{is_past_list, counted_pieces};
 ghost use Rattle.lhg_row.specs.Truths as calculus;
 ghost use Rattle.lhg_union.specs.PolyLists.{lines_of, AllVars};
 ghost use Rattle.lhg_union.specs.Regions.{polys_of, polys_at};
 
+use crate::differences::copies;
 use crate::limits::has_room;
 use lhg_num::{Halt, Scalar, Wide};
 use lhg_poly::Poly;
 use lhg_row::Point;
+use std::alloc::Global;
 
 /// A list of pieces for each location, in the plant's order.
 #[derive(Drop)]
@@ -19,6 +22,18 @@ pub struct Region<N: Scalar> {
 }
 
 impl<N: Scalar> Region<N> {
+    /// A copy. It halts for `Memory` alone.
+    pub fn copy(&self, alloc: Global) -> Result<Region<N>, Halt>
+        ensures { IsHaltedByMemory result (done (polys_of self.now.pieces.items)) (λ r. polys_of r.pieces.items) }
+    {
+        let mut pieces = Vec::with_capacity(alloc, self.pieces.len())?;
+        for list in &self.pieces {
+            let copy = copies(alloc, list)?;
+            pieces.push(copy)?;
+        }
+        Ok(Region { pieces })
+    }
+
     /// Whether the point is in some piece of the location, which is one of the region's. It answers `Wide` only where whether a row of one of these pieces
     /// holds at the point is so answered.
     pub fn contains(&self, loc: u32, point: &Point<N>) -> Result<bool, Wide>

@@ -1,10 +1,10 @@
 use Rattle.std.proofs.Common.{◌≡◌, ◌<◌, ◌+◌, [], ◌∷◌, ◌++◌, length, map, drop, filter, vec_len, arith}
 use Rattle.lhg_num.specs.Marked.{and_then, valued}
+use Rattle.lhg_num.proofs.Halted.{rows_on_wide}
 use Rattle.lhg_row.specs.Piece.{PlainPiece}
 use Rattle.lhg_row.specs.Column.{upper_at, drop_column}
 use Rattle.lhg_row.specs.Trim.{row_limit, counted}
 use Rattle.lhg_row.specs.Eliminate.{with_lowers, each_joined}
-use Rattle.lhg_row.proofs.Steps.{rows_on_wide}
 use Rattle.lhg_elim.proofs.Additive.{joined-additive, pushed-step, pushed-part, IsPushed, pushed-long, counted-part}
 use Rattle.lhg_elim.proofs.by_sides.push_sides.Goals as goal
 

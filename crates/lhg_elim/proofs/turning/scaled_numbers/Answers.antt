@@ -1,5 +1,5 @@
 use Rattle.std.proofs.Common.{◌∙◌, ap, map, length}
-use Rattle.lhg_elim.proofs.WholeSteps.{written_over}
+use Rattle.lhg_math.specs.ListFacts.{written_over}
 use Rattle.lhg_elim.proofs.turning.scaled_numbers.Goals as goal
 
 pub returns : goal.returns

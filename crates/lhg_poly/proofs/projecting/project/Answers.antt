@@ -1,12 +1,10 @@
-use Rattle.std.proofs.Common.{◌≡◌, ℕ, ◌-◌, true, false, None, sym, ◌∙◌, subst}
+use Rattle.std.proofs.Common.{◌≡◌, ◌-◌, true, false, sym, ◌∙◌, subst}
 use Rattle.std.specs.Prelude.{option_map, unwrap_or}
 use Rattle.std.proofs.lemmas.Result.{IfOk-weaker}
 use Rattle.lhg_row.specs.Width.{AllWide}
 use Rattle.lhg_row.specs.HasValue.{IsLastElimination}
 use Rattle.lhg_row.specs.PieceFacts.{IsMade, IsProjection}
 use Rattle.lhg_row.specs.ProjectLaws.{projected}
-use Rattle.lhg_row.specs.System.{PlainSystem}
-use Rattle.lhg_row.specs.Piece.{PlainPiece}
 use Rattle.lhg_row.specs.HasValue.{IsEmptiness}
 use Rattle.lhg_row.specs.ProjectLaws.{project-exact}
 use Rattle.lhg_poly.proofs.AskSteps.{none-known, none_projected}

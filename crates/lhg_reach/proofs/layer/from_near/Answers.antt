@@ -8,7 +8,7 @@ use Rattle.lhg_row.proofs.Steps.{drop_cons}
 use Rattle.lhg_union.specs.PolyLists.{lines_of, AllVars}
 use Rattle.lhg_union.proofs.ListFacts.{all_at}
 use Rattle.lhg_reach.specs.FoundParts.{plain_founds, AllFoundVars}
-use Rattle.lhg_reach.specs.Neighbours.{EachWith, IsEntry, AreEntries}
+use Rattle.lhg_reach.specs.Neighbours.{EachWith, IsEntry, IsFlag, AreEntries}
 use Rattle.lhg_reach.proofs.Pairs.{with_at, with_length, count-near}
 use Rattle.lhg_reach.proofs.Searches.{searching-part, searching-step}
 use Rattle.lhg_reach.proofs.layer.from_near.Goals as goal
@@ -43,6 +43,13 @@ through_ways-requires-clause-entries g c =
     let from = c.index-near-j.result in
     subst (λ bs. EachWith (λ (way : PlainSystem) b. IsEntry g.N.Scalar.arithmetic from.width from.lines way.lines b) c.args.ways.now bs) (sym c.deref.ensures.value)
     (with_at (AreEntries g.N.Scalar.arithmetic c.args.ways.now) c.args.near.now c.args.table.now c.loop-j.j from c.index-table-j.result c.index-near-j.is c.index-table-j.is c.loop-j-test.true c.requires.table)
+
+pub through_ways-requires-clause-flags : goal.through_ways-requires-clause-flags
+through_ways-requires-clause-flags g c =
+    let n = c.args.aim.now.piece.width in
+    let from = c.index-near-j.result in
+    let width : from.width ≡ n = all_at (λ (p : PlainSystem). p.width ≡ n) c.args.near.now c.loop-j.j from c.index-near-j.is c.loop-j-test.true c.requires.near in
+    subst (λ m. EachWith (λ (way : PlainSystem) b. IsFlag g.N.Scalar.arithmetic m c.args.aim.now.piece.lines way.lines b) c.args.ways.now c.args.flags.now) (sym width) c.requires.flags
 
 pub returns-in_err-through_ways-clause-step : goal.returns-in_err-through_ways-clause-step
 returns-in_err-through_ways-clause-step g c = λ base s.

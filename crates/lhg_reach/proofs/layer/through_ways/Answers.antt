@@ -3,7 +3,7 @@ use Rattle.lhg_motion.specs.ReachCalculus.{attempt, numbered}
 use Rattle.lhg_row.specs.System.{PlainSystem}
 use Rattle.lhg_union.specs.PolyLists.{lines_of}
 use Rattle.lhg_reach.specs.FoundParts.{plain_founds}
-use Rattle.lhg_reach.specs.Neighbours.{IsEntry}
+use Rattle.lhg_reach.specs.Neighbours.{IsEntry, IsFlag}
 use Rattle.lhg_reach.proofs.Pairs.{with_get, with_length, count-way}
 use Rattle.lhg_reach.proofs.Searches.{searching-step, numbered_next}
 use Rattle.lhg_reach.proofs.layer.through_ways.Goals as goal
@@ -29,3 +29,9 @@ bounds-entries-i g c = let many = with_length (λ (way : PlainSystem) (b : Bool)
 
 pub through_way-requires-clause-entry : goal.through_way-requires-clause-entry
 through_way-requires-clause-entry g c = with_get (λ (way : PlainSystem) (b : Bool). IsEntry g.N.Scalar.arithmetic c.args.from.now.width c.args.from.now.lines way.lines b) c.args.ways.now c.args.entries.now c.loop-i.i c.index-ways-i.result _ c.index-ways-i.is c.loop-i-test.true c.requires.entries
+
+pub bounds-flags-i : goal.bounds-flags-i
+bounds-flags-i g c = let many = with_length (λ (way : PlainSystem) (b : Bool). IsFlag g.N.Scalar.arithmetic c.args.from.now.width c.args.aim.now.piece.lines way.lines b) c.args.ways.now c.args.flags.now c.requires.flags in let there = c.loop-i-test.true in omega arith
+
+pub through_way-requires-clause-flag : goal.through_way-requires-clause-flag
+through_way-requires-clause-flag g c = with_get (λ (way : PlainSystem) (b : Bool). IsFlag g.N.Scalar.arithmetic c.args.from.now.width c.args.aim.now.piece.lines way.lines b) c.args.ways.now c.args.flags.now c.loop-i.i c.index-ways-i.result _ c.index-ways-i.is c.loop-i-test.true c.requires.flags

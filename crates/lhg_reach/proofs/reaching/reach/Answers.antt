@@ -21,7 +21,7 @@ use Rattle.lhg_union.specs.PolyLists.{lines_of, AllVars, ArePolys}
 use Rattle.lhg_union.proofs.Halts.{all_on_pieces}
 use Rattle.lhg_union.proofs.ListFacts.{lines_of-append, polys_over}
 use Rattle.lhg_reach.specs.FoundParts.{plain_found, plain_founds, plain_reached, AllFoundVars}
-use Rattle.lhg_reach.specs.Neighbours.{IsTable, pair_count}
+use Rattle.lhg_reach.specs.Neighbours.{AreKept, pair_count}
 use Rattle.lhg_reach.specs.Newest.{IsNewest}
 use Rattle.lhg_reach.specs.Searching.{counted_layer}
 use Rattle.lhg_reach.specs.Widths.{AllThree}
@@ -60,8 +60,8 @@ loop-layers-init g c =
       count = λ n v. omega arith;
     }
 
-pub table_of-requires-clause-vars : goal.table_of-requires-clause-vars
-table_of-requires-clause-vars g c =
+pub kept_of-requires-clause-vars : goal.kept_of-requires-clause-vars
+kept_of-requires-clause-vars g c =
     let n = c.requires.vars in
     let v = c.requires.over in
     record {
@@ -70,15 +70,15 @@ table_of-requires-clause-vars g c =
       second = subst (AllVars n) (sym (c.deref.ensures.value ∙ c.in_ok-ways.ensures.items)) (all-append (λ (p : PlainSystem). p.width ≡ n) c.args.bad.now c.args.near.now v.first v.second);
     }
 
-pub table_of-requires-clause-ways : goal.table_of-requires-clause-ways
-table_of-requires-clause-ways g c =
+pub kept_of-requires-clause-ways : goal.kept_of-requires-clause-ways
+kept_of-requires-clause-ways g c =
     subst (ArePolys g.N.Scalar.arithmetic) (sym (c.deref.ensures.value ∙ c.in_ok-ways.ensures.items))
     (all-append (λ (p : PlainSystem). IsPoly g.N.Scalar.arithmetic p.width p.lines) c.args.bad.now c.args.near.now c.in_ok-ways.ensures.bad c.in_ok-ways.ensures.near)
 
-pub grow-requires-clause-table : goal.grow-requires-clause-table
-grow-requires-clause-table g c =
-    subst (λ (ps : List PlainSystem). IsTable g.N.Scalar.arithmetic c.args.near.now ps c.deref-in-loop-layers-2.result.now) (c.deref.ensures.value ∙ sym c.deref-in-loop-layers.ensures.value)
-    (subst (λ rows. IsTable g.N.Scalar.arithmetic c.args.near.now c.deref.result.now rows) (sym c.deref-in-loop-layers-2.ensures.value) c.in_ok-table.ensures.table)
+pub grow-requires-clause-kept : goal.grow-requires-clause-kept
+grow-requires-clause-kept g c =
+    subst (λ (ps : List PlainSystem). AreKept g.N.Scalar.arithmetic c.args.near.now ps c.in_ok-kept.kept.table.items c.in_ok-kept.kept.edges.items) (c.deref.ensures.value ∙ sym c.deref-in-loop-layers.ensures.value)
+    c.in_ok-kept.ensures.kept
 
 pub grow-requires-clause-newest : goal.grow-requires-clause-newest
 grow-requires-clause-newest g c = λ n v.

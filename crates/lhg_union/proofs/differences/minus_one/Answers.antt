@@ -1,10 +1,10 @@
 use Rattle.std.proofs.Common.{◌++◌, sym, subst}
 use Rattle.lhg_num.specs.MarkedLaws.{IsPart}
+use Rattle.lhg_num.proofs.Halted.{all_on_pieces}
 use Rattle.lhg_row.specs.Piece.{PlainPiece}
 use Rattle.lhg_row.specs.Eliminate.{each_joined}
 use Rattle.lhg_row.specs.Lists.{counted_pieces, minus_piece, minus_one}
 use Rattle.lhg_union.specs.PolyLists.{lines_of}
-use Rattle.lhg_union.proofs.Halts.{all_on_pieces}
 use Rattle.lhg_union.proofs.ListFacts.{lines_of-append}
 use Rattle.lhg_union.proofs.GatherSteps.{counted-part}
 use Rattle.lhg_union.proofs.MinusSteps.{reducing-built, reducing-step}

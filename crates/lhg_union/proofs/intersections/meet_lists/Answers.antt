@@ -1,9 +1,9 @@
 use Rattle.std.proofs.Common.{◌++◌, sym, subst}
 use Rattle.lhg_num.specs.MarkedLaws.{IsPart}
+use Rattle.lhg_num.proofs.Halted.{all_on_rows, all_on_pieces}
 use Rattle.lhg_row.specs.PieceFacts.{IsPoly}
 use Rattle.lhg_row.specs.Lists.{counted_pieces, meet_lists, meet_each}
 use Rattle.lhg_union.specs.PolyLists.{lines_of}
-use Rattle.lhg_union.proofs.Halts.{all_on_rows, all_on_pieces}
 use Rattle.lhg_union.proofs.ListFacts.{lines_of-append, all_take}
 use Rattle.lhg_union.proofs.MeetSteps.{gathering-part, gathering-built, gathering-step, whole-part, limit-part, gathering-end}
 use Rattle.lhg_union.proofs.MeetFacts.{met-points, met-polys}

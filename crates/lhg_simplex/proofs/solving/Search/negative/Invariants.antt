@@ -1,6 +1,16 @@
-use Rattle.std.proofs.Common.{◌<◌}
-use Rattle.std.specs.Option.{IfSome}
+use Rattle.std.proofs.Common.{◌≡◌, ◌+◌, vec_len}
 use Rattle.lhg_simplex.proofs.solving.Search.negative.Given as goal
 
-abbrev pub invariant-loop-i : goal.invariant-loop-i
-invariant-loop-i l = IfSome l.best (λ k. k < l.self.table.tall)
+abbrev pub invariant-loop-t : goal.invariant-loop-t
+invariant-loop-t g l = record {
+  vars : vec_len l.self.beside ≡ vec_len l.fn.self.beside;
+  rows : l.self.lines.tall ≡ l.fn.self.lines.tall;
+  lines_wide : l.self.lines.wide ≡ vec_len l.self.beside + 2;
+  many : vec_len l.self.multiples ≡ l.self.lines.tall;
+  square : l.self.table.tall ≡ vec_len l.self.beside;
+  columns : l.self.table.wide ≡ vec_len l.self.beside + 3;
+  room : vec_len l.self.turned ≡ vec_len l.self.beside + 3;
+  values : vec_len l.self.at ≡ vec_len l.self.beside;
+  smalls : vec_len l.self.parts ≡ vec_len l.self.beside;
+  shares : vec_len l.self.weights ≡ vec_len l.self.beside;
+}

@@ -1,10 +1,11 @@
 use Rattle.std.proofs.Common.{◌≡◌, ap, ◌∙◌, subst}
 use Rattle.lhg_num.specs.Halting.{IsWideBy}
+use Rattle.lhg_num.specs.AnswerLaws.{wide_exact}
 use Rattle.lhg_row.specs.Piece.{in_some}
 use Rattle.lhg_row.specs.Truths.{some_truth, some_truth-value}
 use Rattle.lhg_union.specs.PolyLists.{lines_of}
 use Rattle.lhg_union.specs.Regions.{polys_at}
-use Rattle.lhg_union.proofs.RegionSteps.{at-is, wide_exact}
+use Rattle.lhg_union.proofs.RegionSteps.{at-is}
 use Rattle.lhg_union.proofs.regions.Region.contains.Goals as goal
 
 pub returns-clause-exact : goal.returns-clause-exact

@@ -1,0 +1,17 @@
+pub mod Chosen
+pub mod ChosenLaws
+pub mod CombLoose
+pub mod DirectionLaws
+pub mod Directions
+pub mod FilterLaws
+pub mod Grown
+pub mod Kept
+pub mod Laws
+pub mod Loose
+pub mod LooseLaws
+pub mod LooseOver
+pub mod Pruned
+pub mod PrunedAlike
+pub mod Pruning
+pub mod ThinLaws
+pub mod TrimFilter
