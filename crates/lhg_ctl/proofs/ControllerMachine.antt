@@ -14,6 +14,7 @@ use Rattle.lhg_read.specs.Machine.{all_taken, IsBegun, IsWhole, IsMachine}
 use Rattle.lhg_read.specs.MachineLaws.{begun_first, begun_more}
 use Rattle.lhg_read.specs.Reads.{CanGoOn}
 use Rattle.lhg_read.specs.ReadsLaws.{on_by}
+use Rattle.lhg_read.proofs.EndLine.{end_line, end_tokens}
 use Rattle.lhg_ctl.specs.ControllerGrammar.{version_in, said_lines, IsController, IsSomeController}
 use Rattle.lhg_ctl.specs.ControllerLine.{controller_line}
 use Rattle.lhg_ctl.specs.ControllerSteps.{PlainOpen, open_with, taken}
@@ -32,14 +33,7 @@ begins_head : (v : Option Version) (o : PlainOpen) → option_map open_with v �
 begins_head None o h = absurd (none-some o h)
 begins_head (Some v) o h = (v, refl, sym (same_Some (open_with v) o h))
 
--- ---- two lines
-
-unfoldable pub end_line : List Spot
-end_line = record { says = word (codes "end"); from = 0; to = 3 } ∷ []
-
-pub end_tokens : tokens_of (codes "end") ≡ Ok end_line
-unfolding longest tokens_of end_line
-end_tokens = refl
+-- ---- a line
 
 unfoldable pub no_rounds : List Spot
 no_rounds = record { says = word (codes "rounds"); from = 0; to = 6 } ∷ record { says = number nought; from = 7; to = 8 } ∷ []

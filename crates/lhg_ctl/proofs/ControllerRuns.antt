@@ -19,7 +19,7 @@ use Rattle.lhg_ctl.specs.ControllerGrammar.{count_at, named_guards, said_guards,
 use Rattle.lhg_ctl.specs.ControllerLine.{ControllerLine, rounds, piece, guard, end, controller_line}
 use Rattle.lhg_ctl.specs.ControllerSteps.{PlainOpen, open_with, fits, is_new, may_piece, may_guard, next_name, with_rounds, with_piece, with_guard, pushed, step, taken}
 use Rattle.lhg_ctl.specs.Draft.{PlainDraft, guard_name, guard_names}
-use Rattle.lhg_ctl.specs.Numbered.{sizes_in}
+use Rattle.lhg_read.specs.Numbered.{sizes_in}
 use Rattle.lhg_ctl.specs.declared.versions.Version.{Version}
 use Rattle.lhg_ctl.specs.declared.versions.Version.TheVariants.{First, Second}
 

@@ -17,6 +17,7 @@ use Rattle.lhg_lex.specs.PlainToken.{PlainToken}
 use Rattle.lhg_plant.specs.Differ.{is_among, all_differ}
 use Rattle.lhg_plant.specs.Plant.{PlainPlant}
 use Rattle.lhg_plant.specs.Proper.{IsProper}
+use Rattle.lhg_read.specs.Listed.{alone}
 use Rattle.lhg_read.specs.Names.{name_of}
 use Rattle.lhg_read.specs.PlantSteps.{loc_names, switch_names}
 use Rattle.lhg_read.specs.Rows.{rows_of}
@@ -29,10 +30,11 @@ use Rattle.lhg_read.proofs.LineRows.{rows_read}
 use Rattle.lhg_read.proofs.PairSteps.{place_below}
 use Rattle.lhg_read.proofs.VariableSteps.{differ_more}
 use Rattle.lhg_ctl.specs.ControllerGrammar.{said_rounds, named_guards, said_guards, said_lines, AreNames, IsController}
-use Rattle.lhg_ctl.specs.ControllerLine.{ControllerLine, rounds, piece, guard, end, most_rounds, is_controllable, is_of, switch_in, placed_rows, guard_of, named_guard, guard_by, alone, controller_by, rounds_line, controller_line}
+use Rattle.lhg_ctl.specs.ControllerLine.{ControllerLine, rounds, piece, guard, end, most_rounds, placed_rows, guard_of, named_guard, guard_by, controller_by, rounds_line, controller_line}
+use Rattle.lhg_read.specs.SwitchName.{is_controllable, is_of, switch_in}
 use Rattle.lhg_ctl.specs.Draft.{PlainDraft, guard_name, guard_names}
 use Rattle.lhg_ctl.specs.DraftStates.{IsPlaced, IsOfController, IsGiven, IsGivenDraft}
-use Rattle.lhg_ctl.specs.Numbered.{natural_in, in_digits, numbered}
+use Rattle.lhg_read.specs.Numbered.{natural_in, in_digits, numbered}
 use Rattle.lhg_ctl.specs.declared.versions.Version.{Version}
 use Rattle.lhg_ctl.specs.declared.versions.Version.TheVariants.{First, Second}
 use Rattle.lhg_ctl.proofs.ControllerRuns.{line_in, names_one}
@@ -65,6 +67,10 @@ module _ (a : PlainPlant) (proper : IsProper a) where
 
   location_good : (token : PlainToken) (k : ℕ) → location_in a token ≡ Some k → k < length a.locs
   location_good token k e = option_and_then_some _ (name_of token) k e (λ w is f. subst (λ (n : ℕ). k < n) (length-map a.locs (λ l. l.name)) (place_below w (loc_names a.locs) (Some k) f))
+
+  -- a location with rows can be made
+  pub location_placed : (tokens : List PlainToken) (x : ℕ × PlainPiece) → placed_rows a (location_in a) tokens ≡ Some x → IsPlaced (length a.vars) (length a.locs) x
+  location_placed tokens x e = let p = placed_good (location_in a) (λ k. k < length a.locs) location_good tokens x e in (p.1 (length a.locs) p.0).placed
 
   -- a switch on the controller's side
   record IsThere (k : ℕ) : Type 0 where

@@ -8,7 +8,7 @@ use Rattle.lhg_read.specs.TokenText.{token_lines}
 use Rattle.lhg_row_text.proofs.LineText.{Says}
 use Rattle.lhg_row_text.proofs.LinesBack.{IsInner, token_lines-cons}
 use Rattle.lhg_row_text.proofs.RowReads.{cons_eq}
-use Rattle.lhg_ctl.specs.Numbered.{sizes_in}
+use Rattle.lhg_read.specs.Numbered.{sizes_in}
 
 -- the line says tokens that are read as this value, whatever their sizes
 pub record IsLineBy (V : Type 0) (read : List PlainToken → List ℕ → Option V) (line : List ℕ) (value : V) : Type 0 where

@@ -10,8 +10,8 @@ use Rattle.lhg_plant.specs.State.{PlainState}
 use Rattle.lhg_read.specs.PlantText.{said_in}
 use Rattle.lhg_read.specs.ReadsLaws.{on_by}
 use Rattle.lhg_read.specs.Reads.{CanGoOn}
+use Rattle.lhg_read.proofs.EndLine.{end_line, end_tokens}
 use Rattle.lhg_ctl.specs.LogText.{PlainLog, LogLine, entry, end, log_line, start_line, said_entries, IsLog, IsSomeLog, PlainOpenLog, begun_at, with_line, log_taken}
-use Rattle.lhg_ctl.proofs.ControllerMachine.{end_line, end_tokens}
 use Rattle.lhg_read.specs.Machine.{all_taken, IsBegun, IsWhole}
 use Rattle.lhg_read.specs.MachineLaws.{begun_more}
 

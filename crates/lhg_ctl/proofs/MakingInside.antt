@@ -22,7 +22,7 @@ use Rattle.lhg_plant.specs.Proper.{IsProper, IsSwitch}
 use Rattle.lhg_plant.specs.Sound.{IsInside}
 use Rattle.lhg_read.proofs.Collecting.{same_eq}
 use Rattle.lhg_ctl.specs.Conditions.{IsInsideController}
-use Rattle.lhg_ctl.specs.ControllerLine.{is_controllable, is_of}
+use Rattle.lhg_read.specs.SwitchName.{is_controllable, is_of}
 use Rattle.lhg_ctl.specs.Draft.{PlainDraft}
 use Rattle.lhg_ctl.specs.DraftStates.{IsPlaced, IsOfController, IsDraft}
 use Rattle.lhg_ctl.specs.Making.{put, inv_in, inv_at, source_in, source_at, line_made, all_made, controller_of}

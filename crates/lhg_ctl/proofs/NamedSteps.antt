@@ -82,14 +82,18 @@ sw_name (s ∷ switches) (suc j) = sw_name switches j
 no_more : (j : ℕ) → 0 + j ≡ j
 no_more j = omega arith
 
+-- the lines of pieces by their lists
+pieces-named : (a : PlainPlant) (region : List (List PlainPiece)) → length region ≡ length a.locs → map (piece_line a) (placed_from 0 region) ≡ named_lines (codes "piece") (map (λ l. l.name) a.locs) a.vars region
+pieces-named a region locs =
+    placed_lines (piece_line a) (codes "piece") a.vars (map (λ l. l.name) a.locs) 0 region (λ j q. ap (λ w. named_line (codes "piece") w a.vars q) (ap (λ (i : ℕ). location_name (slice_get a.locs i)) (no_more j) ∙ loc_name a.locs j)) (locs ∙ sym (length-map a.locs (λ l. l.name)))
+
 -- the text of a controller by its lists
 pub text-named : (a : PlainPlant) (c : PlainController) → length c.region ≡ length a.locs → length c.guards ≡ length a.switches
     → controller_text a c ≡ line (codes "controller 1") ++ (flat_map line (named_lines (codes "piece") (map (λ l. l.name) a.locs) a.vars c.region) ++ (flat_map line (named_lines (codes "guard") (map (λ s. s.name) a.switches) a.vars c.guards) ++ line (codes "end")))
 text-named a c locs switches =
     let ps = map (piece_line a) (placed_from 0 c.region) in
     let gs = map (guard_line a) (placed_from 0 c.guards) in
-    let p : ps ≡ named_lines (codes "piece") (map (λ l. l.name) a.locs) a.vars c.region =
-    placed_lines (piece_line a) (codes "piece") a.vars (map (λ l. l.name) a.locs) 0 c.region (λ j q. ap (λ w. named_line (codes "piece") w a.vars q) (ap (λ (i : ℕ). location_name (slice_get a.locs i)) (no_more j) ∙ loc_name a.locs j)) (locs ∙ sym (length-map a.locs (λ l. l.name))) in
+    let p : ps ≡ named_lines (codes "piece") (map (λ l. l.name) a.locs) a.vars c.region = pieces-named a c.region locs in
     let g : gs ≡ named_lines (codes "guard") (map (λ s. s.name) a.switches) a.vars c.guards =
     placed_lines (guard_line a) (codes "guard") a.vars (map (λ s. s.name) a.switches) 0 c.guards (λ j q. ap (λ w. named_line (codes "guard") w a.vars q) (ap (λ (i : ℕ). switch_name (slice_get a.switches i)) (no_more j) ∙ sw_name a.switches j)) (switches ∙ sym (length-map a.switches (λ s. s.name))) in
     ap (λ t. line (codes "controller 1") ++ t) (
@@ -129,6 +133,12 @@ sw_names (s ∷ switches) = ap (λ ws. s.name ∷ ws) (sw_names switches)
 -- as many lists of rows as lists of pieces
 pub same_count : (lists : List (Vec PlainSystem)) → length (plain_region lists) ≡ length lists
 same_count lists = length-map (polys_of lists) lines_of ∙ length-map lists (λ ps. ps.items)
+
+-- the lines of pieces that the code holds, by their lists
+pub pieces_held : (vars : List (List ℕ)) (locs : List Location) (switches : List Switch) (region : List (Vec PlainSystem)) → length region ≡ length locs
+    → map (piece_line (plain_parts vars locs switches)) (placed_from 0 (plain_region region)) ≡ named_lines (codes "piece") (map (λ l. l.name) locs) vars (plain_region region)
+pieces_held vars locs switches region h =
+    pieces-named (plain_parts vars locs switches) (plain_region region) (same_count region ∙ h ∙ sym (length-map locs plain_location)) ∙ ap (λ ws. named_lines (codes "piece") ws vars (plain_region region)) (loc_names locs)
 
 -- the text of a controller that the code holds, by its lists
 pub text_held : (vars : List (List ℕ)) (locs : List Location) (switches : List Switch) (region guards : List (Vec PlainSystem)) → length region ≡ length (map plain_location locs) → length guards ≡ length (map plain_switch switches)

@@ -14,7 +14,8 @@ use Rattle.lhg_plant.specs.Plant.{PlainPlant, PlainSwitch}
 use Rattle.lhg_plant.specs.Proper.{IsProper}
 use Rattle.lhg_row_text.proofs.LinesBack.{IsInner, lines_back}
 use Rattle.lhg_ctl.specs.ControllerGrammar.{IsControllerText}
-use Rattle.lhg_ctl.specs.ControllerLine.{ControllerLine, is_controllable, is_of, controller_line}
+use Rattle.lhg_ctl.specs.ControllerLine.{ControllerLine, controller_line}
+use Rattle.lhg_read.specs.SwitchName.{is_controllable, is_of}
 use Rattle.lhg_ctl.specs.ControllerText.{piece_line, guard_line, controller_lines, controller_text}
 use Rattle.lhg_ctl.specs.Draft.{draft_of, all_at, placed_from}
 use Rattle.lhg_ctl.specs.DraftStates.{IsOfController}

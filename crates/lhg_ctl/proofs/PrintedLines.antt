@@ -20,7 +20,8 @@ use Rattle.lhg_row_text.proofs.LineItems.{word_item, items_say}
 use Rattle.lhg_row_text.proofs.NamePlaces.{is_named, place_back}
 use Rattle.lhg_row_text.proofs.NamedRows.{AreNames, AreRead, rows_are_read, name_read, word_says}
 use Rattle.lhg_ctl.specs.ControllerGrammar.{named_guards, said_lines}
-use Rattle.lhg_ctl.specs.ControllerLine.{ControllerLine, piece, guard, end, is_controllable, if_of, switch_in, placed_rows, guard_of, controller_line}
+use Rattle.lhg_ctl.specs.ControllerLine.{ControllerLine, piece, guard, end, placed_rows, guard_of, controller_line}
+use Rattle.lhg_read.specs.SwitchName.{is_controllable, if_of, switch_in}
 use Rattle.lhg_ctl.specs.ControllerText.{piece_line, guard_line, named_guard_line, named_guard_lines}
 use Rattle.lhg_ctl.specs.Draft.{PlainDraft}
 use Rattle.lhg_ctl.specs.DraftStates.{IsOfController}

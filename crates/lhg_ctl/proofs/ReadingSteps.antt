@@ -1,35 +1,27 @@
 -- A controller is read: its head, the lines behind it, and its end.
 use Rattle.std.proofs.Common.{◌≡◌, ◌+◌, ◌-◌, ℕ, List, [], ◌∷◌, map, refl, sym, ap, ◌∙◌, true, false, Option, Some, None, arith, codes}
 use Rattle.std.specs.Option.{option_and_then, option_map}
-use Rattle.lhg_lex.specs.Lines.{lines_of}
 use Rattle.lhg_lex.specs.LineTokens.{Spot}
-use Rattle.lhg_lex.specs.TextTokens.{plain_of, placed}
-use Rattle.lhg_lex.specs.Reading.{Reading, start_of, IsTokenLine}
+use Rattle.lhg_lex.specs.TextTokens.{plain_of}
+use Rattle.lhg_lex.specs.Reading.{Reading, IsTokenLine}
 use Rattle.lhg_lex.specs.declared.stops.ReadStop.{ReadStop}
 use Rattle.lhg_lex.specs.declared.tokens.Line.{Line}
 use Rattle.lhg_lex.specs.declared.tokens.Token.{Token}
 use Rattle.lhg_plant.specs.Plant.{PlainPlant}
 use Rattle.lhg_read.specs.Machine.{Between}
 use Rattle.lhg_read.specs.MachineLaws.{nothing_comes, first_refused, first_taken, no_end_comes, not_taken, one_taken, whole_read}
+use Rattle.lhg_read.specs.Numbered.{numbered, sizes_in, sizes_of}
 use Rattle.lhg_read.specs.ReadsLaws.{said_after}
 use Rattle.lhg_read.specs.Refusals.{stop_at, IsRefused}
 use Rattle.lhg_read.specs.TokenText.{ReadsText, HasCause, IsNoLine}
 use Rattle.lhg_read.specs.declared.refusal.Refusal.{Refusal}
 use Rattle.lhg_read.specs.declared.refusal.Refusal.TheVariants.{NotHere}
+use Rattle.lhg_read.proofs.LineSizes.{sizes_are}
 use Rattle.lhg_ctl.specs.ControllerGrammar.{version_by, version_in, IsController, IsSomeController, IsSomeControllerText}
 use Rattle.lhg_ctl.specs.ControllerSteps.{PlainOpen, open_with, taken}
-use Rattle.lhg_ctl.specs.Numbered.{numbered, sizes_in, sizes_of}
 use Rattle.lhg_ctl.specs.declared.versions.Version.{Version}
 use Rattle.lhg_ctl.proofs.ControllerMachine.{begin_at, controllers, controller_of_begun}
 use Rattle.lhg_ctl.proofs.ControllerRuns.{is_ended, taken_at}
-
--- the tokens of a line in a text have the sizes of its spots
-placed_sizes : (start : ℕ) (spots : List Spot) → sizes_of (map (placed start) spots) ≡ sizes_in spots
-placed_sizes start [] = refl
-placed_sizes start (x ∷ spots) = let e : start + x.to - (start + x.from) ≡ x.to - x.from = omega arith in ap (λ k. k ∷ sizes_of (map (placed start) spots)) e ∙ ap (λ ks. (x.to - x.from) ∷ ks) (placed_sizes start spots)
-
-sizes_are : (s : Reading) (line : Line) (h : IsTokenLine s line) (tokens : List Token) → tokens ≡ line.tokens.items → sizes_of tokens ≡ sizes_in h.spots
-sizes_are s line h tokens f = ap sizes_of (f ∙ h.placed_at) ∙ placed_sizes (start_of h.before (lines_of s.bytes)) h.spots
 
 -- between two lines of a controller
 abbrev pub ReadSoFar : PlainPlant → Reading → Reading → PlainOpen → Type 0

@@ -33,7 +33,7 @@ use Rattle.lhg_ctl.specs.ControllerLine.{ControllerLine, rounds, most_rounds, co
 use Rattle.lhg_ctl.specs.ControllerText.{piece_line, named_guard_lines, rounds_text, second_lines, second_text}
 use Rattle.lhg_ctl.specs.Draft.{PlainDraft}
 use Rattle.lhg_ctl.specs.DraftStates.{IsPlaced, IsGiven, IsGivenDraft}
-use Rattle.lhg_ctl.specs.Numbered.{natural_in, in_digits}
+use Rattle.lhg_read.specs.Numbered.{natural_in, in_digits}
 use Rattle.lhg_ctl.specs.declared.versions.Version.TheVariants.{Second}
 use Rattle.lhg_ctl.proofs.ControllerRuns.{line_in}
 use Rattle.lhg_ctl.proofs.HeadLine.{second_line, second_tokens, second_some, second_is}

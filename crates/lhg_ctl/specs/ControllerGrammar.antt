@@ -10,7 +10,7 @@ use Rattle.lhg_read.specs.PlantText.{said_in}
 use Rattle.lhg_read.specs.TokenText.{IsTextBy}
 use Rattle.lhg_ctl.specs.ControllerLine.{ControllerLine, rounds, piece, guard, end, controller_line}
 use Rattle.lhg_ctl.specs.Draft.{PlainDraft, guard_names}
-use Rattle.lhg_ctl.specs.Numbered.{numbered, sizes_in}
+use Rattle.lhg_read.specs.Numbered.{numbered, sizes_in}
 use Rattle.lhg_ctl.specs.declared.versions.Version.{Version}
 use Rattle.lhg_ctl.specs.declared.versions.Version.TheVariants.{First, Second}
 

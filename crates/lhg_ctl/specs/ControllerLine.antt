@@ -1,19 +1,17 @@
 -- What does a line of a controller say, behind its head?
-use Rattle.std.specs.Prelude.{ℕ, Bool, true, false, if◌then◌else◌, List, [], ◌∷◌, Option, Some, None, codes, slice_get}
+use Rattle.std.specs.Prelude.{ℕ, if◌then◌else◌, List, [], ◌∷◌, Option, Some, None, codes}
 use Rattle.std.specs.Option.{option_and_then, option_map}
 use Rattle.lhg_row.specs.Piece.{PlainPiece}
 use Rattle.lhg_lex.specs.PlainToken.{PlainToken}
-use Rattle.lhg_plant.specs.declared.plants.Side.{Side}
-use Rattle.lhg_plant.specs.declared.plants.Side.TheVariants.{Ctl, Env, Pick}
-use Rattle.lhg_plant.specs.Plant.{PlainPlant, PlainSwitch}
+use Rattle.lhg_plant.specs.Plant.{PlainPlant}
+use Rattle.lhg_read.specs.Listed.{alone}
 use Rattle.lhg_read.specs.Names.{name_of}
-use Rattle.lhg_read.specs.PlantSteps.{switch_names}
 use Rattle.lhg_read.specs.Rows.{rows_of}
 use Rattle.lhg_read.specs.Signs.{is_word}
 use Rattle.lhg_read.specs.StateText.{location_in}
-use Rattle.lhg_read.specs.Term.{place_of}
 use Rattle.lhg_read.specs.declared.forms.Form.TheVariants.{Plain}
-use Rattle.lhg_ctl.specs.Numbered.{numbered}
+use Rattle.lhg_read.specs.Numbered.{numbered}
+use Rattle.lhg_read.specs.SwitchName.{is_controllable, switch_in}
 use Rattle.lhg_ctl.specs.declared.versions.Version.{Version}
 use Rattle.lhg_ctl.specs.declared.versions.Version.TheVariants.{First, Second}
 
@@ -28,31 +26,6 @@ pub data ControllerLine : Type 0 where
 -- how large the number of rounds may be
 abbrev pub most_rounds : ℕ
 most_rounds = 1000
-
--- the controller takes the switch
-abbrev pub is_controllable : Side → Bool
-is_controllable Ctl = true
-is_controllable Env = false
-is_controllable Pick = true
-
--- the plant takes the switch
-abbrev pub is_uncontrollable : Side → Bool
-is_uncontrollable Ctl = false
-is_uncontrollable Env = true
-is_uncontrollable Pick = false
-
--- the switch is there, and its side is such
-abbrev pub is_of : (Side → Bool) → Option PlainSwitch → Bool
-is_of test None = false
-is_of test (Some w) = test w.side
-
--- the place, where the side of the switch there is such
-abbrev pub if_of : (Side → Bool) → PlainPlant → ℕ → Option ℕ
-if_of test p e = if is_of test (slice_get p.switches e) then Some e else None
-
--- the place of the switch with such a side that a token names
-abbrev pub switch_in : (Side → Bool) → PlainPlant → PlainToken → Option ℕ
-switch_in test p token = option_and_then (if_of test p) (option_and_then (λ name. place_of name (switch_names p.switches)) (name_of token))
 
 -- NAME ROWS, where the name has a place
 abbrev pub placed_rows : PlainPlant → (PlainToken → Option ℕ) → List PlainToken → Option (ℕ × PlainPiece)
@@ -73,11 +46,6 @@ named_guard p (switch ∷ name ∷ rows) = option_and_then (λ w. guard_of p (So
 abbrev pub guard_by : Version → PlainPlant → List PlainToken → Option ControllerLine
 guard_by First p tokens = guard_of p None tokens
 guard_by Second p tokens = named_guard p tokens
-
--- nothing more stands there
-abbrev pub alone : {A : Type 0} → A → List PlainToken → Option A
-alone x [] = Some x
-alone x (token ∷ tokens) = None
 
 -- what a line with this first token says, but for `rounds R`
 abbrev pub controller_by : Version → PlainPlant → PlainToken → List PlainToken → Option ControllerLine

@@ -12,7 +12,8 @@ use Rattle.lhg_plant.specs.Limits.{most_line_rows}
 use Rattle.lhg_plant.specs.Plant.{PlainPlant}
 use Rattle.lhg_plant.specs.State.{PlainState, IsState}
 use Rattle.lhg_ctl.specs.ControllerGrammar.{count_at}
-use Rattle.lhg_ctl.specs.ControllerLine.{is_controllable, is_of, most_rounds}
+use Rattle.lhg_ctl.specs.ControllerLine.{most_rounds}
+use Rattle.lhg_read.specs.SwitchName.{is_controllable, is_of}
 use Rattle.lhg_ctl.specs.Draft.{PlainDraft}
 
 -- the rows of the piece hold at the point, and it stands at the place

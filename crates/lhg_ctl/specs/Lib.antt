@@ -13,6 +13,5 @@ pub mod Making
 pub mod MakingLaws
 pub mod NamedLines
 pub mod NameLists
-pub mod Numbered
 pub mod Views
 pub mod Written

@@ -7,12 +7,13 @@ use Rattle.lhg_lex.specs.PlainToken.{PlainToken}
 use Rattle.lhg_plant.specs.Plant.{PlainPlant}
 use Rattle.lhg_plant.specs.Run.{PlainEntry, flow_entry, env_entry, land_entry}
 use Rattle.lhg_plant.specs.State.{PlainState}
+use Rattle.lhg_read.specs.Listed.{alone}
 use Rattle.lhg_read.specs.PlantText.{said_in}
 use Rattle.lhg_read.specs.PointText.{number_in, point_of}
 use Rattle.lhg_read.specs.Signs.{is_word, is_minus}
 use Rattle.lhg_read.specs.StateText.{state_by}
 use Rattle.lhg_read.specs.TokenText.{IsTextBy}
-use Rattle.lhg_ctl.specs.ControllerLine.{alone, is_uncontrollable, switch_in}
+use Rattle.lhg_read.specs.SwitchName.{is_uncontrollable, switch_in}
 
 -- the start of a log, and its entries in order
 pub record PlainLog : Type 0 where

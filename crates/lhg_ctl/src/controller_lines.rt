@@ -10,18 +10,18 @@ ghost use Rattle.lhg_read.specs.StateText.{location_in};
 ghost use Rattle.lhg_ctl.specs.ControllerLine.{piece, placed_rows, guard_of, named_guard, guard_by, rounds_line, controller_by};
 ghost use Rattle.lhg_ctl.specs.ControllerSteps.{step, taken};
 ghost use Rattle.lhg_ctl.specs.Counted.{IsCounted};
-ghost use Rattle.lhg_ctl.specs.Numbered.{sizes_of};
+ghost use Rattle.lhg_read.specs.Numbered.{sizes_of};
 ghost use Rattle.lhg_ctl.specs.Views.{plain_open};
 ghost use Rattle.lhg_ctl.specs.declared.versions.Version.TheVariants.{First, Second};
 
-use crate::numbered::numbered;
 use crate::open_drafts::OpenDraft;
-use crate::places::{controllable_named, location_named};
 use crate::versions::Version;
 use lhg_lex::{Lines, Token};
 use lhg_num::Frac;
 use lhg_plant::Plant;
-use lhg_read::{Form, Refusal, is_word, read_name, rows_from};
+use lhg_read::{
+    Form, Refusal, controllable_named, is_word, location_named, numbered, read_name, rows_from,
+};
 use lhg_row::Row;
 use std::alloc::Global;
 

@@ -10,10 +10,8 @@ mod log_lines;
 mod logs;
 mod making;
 mod name_lists;
-mod numbered;
 mod open_drafts;
 mod open_logs;
-mod places;
 mod printing;
 mod reading;
 #[cfg(test)]
@@ -26,5 +24,5 @@ pub use draft_printing::print_draft;
 pub use entries::Entry;
 pub use logs::read_log;
 pub use making::controller_of;
-pub use printing::{print_controller, push_controller};
+pub use printing::{print_controller, push_controller, push_pieces};
 pub use reading::read_controller;

@@ -12,11 +12,10 @@ ghost use Rattle.lhg_ctl.specs.LogViews.{plain_entry, plain_open_log};
 
 use crate::entries::Entry;
 use crate::open_logs::OpenLog;
-use crate::places::uncontrollable_named;
 use lhg_lex::{Lines, Tok, Token};
 use lhg_num::{Frac, Scalar};
 use lhg_plant::Plant;
-use lhg_read::{Refusal, is_word, point_from};
+use lhg_read::{Refusal, is_word, point_from, uncontrollable_named};
 use std::alloc::Global;
 
 // Whether the token is a `-`.

@@ -66,15 +66,15 @@ fn push_list(
     Ok(())
 }
 
-// The pieces of all locations.
-fn push_pieces(
+/// Appends the lines of the pieces of all locations, each with its list. After want of memory nothing is said of the text.
+pub fn push_pieces(
     text: &mut Vec<u8>,
     plant: &Plant,
     region: &[Vec<Poly<Frac>>],
 ) -> Result<(), AllocError>
     requires same_length { length region.now ≡ length plant.now.locs.items }
     requires vars { AllOf (λ ps. polys.AllVars (length plant.now.vars.items) ps.items) region.now }
-    ensures text { OnOk result (text.new.items ≡ text.old.items ++ flat_map line (named_lines (codes "piece") (map (λ l. l.name) plant.now.locs.items) plant.now.vars.items (plain_region region.now))) }
+    ensures text { OnOk result (text.new.items ≡ text.old.items ++ flat_map line (map (piece_line (plain_plant plant.now)) (placed_from 0 (plain_region region.now)))) }
     ensures written { OnOk result (AllOf (AllOf (IsWritten (length plant.now.vars.items))) (plain_region region.now)) }
 {
     for i in 0..region.len() {

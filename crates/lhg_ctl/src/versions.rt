@@ -3,10 +3,10 @@ ghost use Rattle.std.specs.Prelude.{◌≡◌, All, codes, map};
 ghost use Rattle.std.specs.Option.{option_and_then};
 ghost use Rattle.lhg_lex.specs.TextTokens.{plain_of, IsSpan};
 ghost use Rattle.lhg_ctl.specs.ControllerGrammar.{version_by};
-ghost use Rattle.lhg_ctl.specs.Numbered as plain;
+ghost use Rattle.lhg_read.specs.Numbered as plain;
 
-use crate::numbered::numbered;
 use lhg_lex::{Lines, Token};
+use lhg_read::numbered;
 
 /// A version of a controller's text.
 #[derive(Clone, Copy, Debug, PartialEq, Eq)]

@@ -12,7 +12,7 @@ use Rattle.lhg_loss.specs.declared.losses.Loss.{Loss}
 use Rattle.lhg_loss.specs.Views.{plain_loss, plain_losses, LossVars, AllHaveVars}
 use Rattle.lhg_play.specs.declared.plays.Move.{Move}
 use Rattle.lhg_play.specs.Views.{plain_moves}
-use Rattle.lhg_explain.specs.Explained.{IsWideLoss}
+use Rattle.lhg_loss.specs.ExplainFacts.{IsWideLoss}
 
 -- a number is 0 where its size is
 pub nought_size : (x : Number) → is_nought (size_of x) ≡ is_nought x

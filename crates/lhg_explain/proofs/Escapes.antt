@@ -22,8 +22,10 @@ use Rattle.lhg_plant.specs.Loss.{PlainCause, by_env, by_leave, by_flow, PlainLos
 use Rattle.lhg_plant.specs.Sound.{IsInside, Shows, ShowsEnv, ShowsLeave, ShowsFlow}
 use Rattle.lhg_plant.proofs.Losses.{loss_named}
 use Rattle.lhg_plant.proofs.RunInside.{flow_length}
-use Rattle.lhg_explain.specs.Explanation.{PlainWay, loss_at, flow_by, switch_by, next_by, way_by, way_within, explanation}
-use Rattle.lhg_explain.specs.Explained.{IsWideCause, IsWideLoss, AreRecords, IsLeft, ExplainLaw}
+use Rattle.lhg_plant.specs.Explained.{PlainWay}
+use Rattle.lhg_loss.specs.Explanation.{loss_at, flow_by, switch_by, next_by, way_by, way_within, explanation}
+use Rattle.lhg_loss.specs.ExplainFacts.{IsWideCause, IsWideLoss, AreRecords, ExplainLaw}
+use Rattle.lhg_plant.specs.Explained.{IsLeft}
 use Rattle.lhg_explain.proofs.HeldRecords.{sound_at, wide_at, earlier_at, earlier-flow, record_at}
 use Rattle.lhg_explain.proofs.RecordSteps.{passes_flow, found-ends, found-legal, found-inner, taken-there, reached, reached-legal, reached-gone, move_may}
 

@@ -12,8 +12,9 @@ use Rattle.lhg_plant.specs.Round.{InRound}
 use Rattle.lhg_plant.specs.Loss.{PlainLoss}
 use Rattle.lhg_plant.proofs.Options.{some_out}
 use Rattle.lhg_loss.specs.Holding.{IsFirstHolding}
-use Rattle.lhg_explain.specs.Explanation.{PlainEscape}
-use Rattle.lhg_explain.specs.Explained.{IsHeldBy, IsLeft, IsExplained, IsPlacedLast, FitsPlant}
+use Rattle.lhg_plant.specs.Explained.{PlainEscape}
+use Rattle.lhg_loss.specs.ExplainFacts.{IsHeldBy}
+use Rattle.lhg_plant.specs.Explained.{IsLeft, IsExplained, IsPlacedLast, FitsPlant}
 use Rattle.lhg_explain.proofs.NextSteps.{there_below, some_below}
 
 -- the flows of a play end at points with as many coordinates as its start

@@ -12,7 +12,7 @@ use Rattle.lhg_motion.specs.Crossing.{HasCrossing}
 use Rattle.lhg_motion.specs.CrossCalculus.{cross_rows}
 use Rattle.lhg_motion.specs.CrossSystem.{cross_rows-wide, middle_rows}
 use Rattle.lhg_motion.specs.CrossLaws.{to_middle}
-use Rattle.lhg_explain.specs.Explanation.{sample_of, crossing_from, flow_from}
+use Rattle.lhg_loss.specs.Explanation.{sample_of, crossing_from, flow_from}
 use Rattle.lhg_explain.proofs.FlowRows.{IsCrossingTo, rows_crossing}
 use Rattle.lhg_explain.proofs.SamplePoints.{sample_of-in, last_split}
 

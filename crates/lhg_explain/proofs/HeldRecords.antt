@@ -12,8 +12,8 @@ use Rattle.lhg_plant.specs.Round.{InRound}
 use Rattle.lhg_plant.specs.Loss.{PlainCause, by_env, by_leave, by_flow, PlainLoss, InPieceAt, InLoss, IsEarlierLoss}
 use Rattle.lhg_plant.specs.Sound.{IsInside, HasFlowThrough, Shows, ShowsFlow, IsSoundBetween}
 use Rattle.lhg_loss.proofs.Numbers.{all_contained}
-use Rattle.lhg_explain.specs.Explanation.{flows_on, no_loss, loss_at, flow_by, switch_by, next_by}
-use Rattle.lhg_explain.specs.Explained.{IsWideCause, IsWideLoss, AreRecords, IsHeldBy, state_in}
+use Rattle.lhg_loss.specs.Explanation.{flows_on, no_loss, loss_at, flow_by, switch_by, next_by}
+use Rattle.lhg_loss.specs.ExplainFacts.{IsWideCause, IsWideLoss, AreRecords, IsHeldBy, state_in}
 use Rattle.lhg_explain.proofs.RecordSteps.{found-ends}
 
 -- ---- lists

@@ -24,9 +24,9 @@ use Rattle.lhg_loss.specs.declared.losses.Cause.{Cause}
 use Rattle.lhg_loss.specs.declared.losses.Cause.TheVariants.{Env, Leave, Flow}
 use Rattle.lhg_loss.specs.declared.losses.Loss.{Loss}
 use Rattle.lhg_loss.specs.Views.{plain_cause, plain_loss, plain_losses, CauseVars, LossVars, AllHaveVars}
-use Rattle.lhg_explain.specs.Explanation.{PlainNext, no_loss, loss_at, flow_rows, next_by}
-use Rattle.lhg_explain.specs.Explained.{IsWideCause, IsWideLoss, AreRecords, IsHeldBy, state_in}
-use Rattle.lhg_explain.specs.Results.{HasResult, HasResultBy}
+use Rattle.lhg_loss.specs.Explanation.{PlainNext, no_loss, loss_at, flow_rows, next_by}
+use Rattle.lhg_loss.specs.ExplainFacts.{IsWideCause, IsWideLoss, AreRecords, IsHeldBy, state_in}
+use Rattle.lhg_loss.specs.Results.{HasResult, HasResultBy}
 use Rattle.lhg_explain.proofs.HeldRecords.{IsRecordAt, record_at, wide_at, earlier_at, earlier-flow}
 use Rattle.lhg_explain.proofs.RecordSteps.{crosses, taken, taken-there, known-in}
 

@@ -24,10 +24,10 @@ use Rattle.lhg_plant.specs.Sound.{IsInside, HasFlowThrough, AllMayPass, ShowsEnv
 use Rattle.lhg_plant.specs.Run.{state_along}
 use Rattle.lhg_plant.proofs.Options.{some_out, some_there}
 use Rattle.lhg_plant.proofs.RunInside.{flow_length, along_state}
-use Rattle.lhg_explain.specs.Explanation.{flow_rows, flow_by, result_from}
+use Rattle.lhg_loss.specs.Explanation.{flow_rows, flow_by, result_from}
 use Rattle.lhg_explain.proofs.FlowRows.{IsCrossingTo}
 use Rattle.lhg_explain.proofs.FlowPoints.{flow_from-crosses}
-use Rattle.lhg_explain.specs.Results.{IsResultIn}
+use Rattle.lhg_loss.specs.Results.{IsResultIn}
 use Rattle.lhg_explain.proofs.SamplePoints.{result_from-in}
 
 -- ---- widths

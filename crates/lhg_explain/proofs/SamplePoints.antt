@@ -20,8 +20,8 @@ use Rattle.lhg_row.specs.Sample.{sample}
 use Rattle.lhg_row.specs.SampleLaws.{sample-in}
 use Rattle.lhg_row.specs.PutIn.{put_in_each}
 use Rattle.lhg_row.specs.PutInLaws.{put_in-to, put_in-from, put_in-wide}
-use Rattle.lhg_explain.specs.Results.{IsResultIn}
-use Rattle.lhg_explain.specs.Explanation.{sample_where, sample_of, result_from}
+use Rattle.lhg_loss.specs.Results.{IsResultIn}
+use Rattle.lhg_loss.specs.Explanation.{sample_where, sample_of, result_from}
 
 -- a list that holds at one point holds where its rows with a variable do
 pub varying_all : (rows : PlainPiece) (z y : PlainPoint) → InPiece rows z → InPiece (filter varies rows) y → InPiece rows y

@@ -7,8 +7,9 @@ use Rattle.lhg_motion.specs.Play.{PlainMove, last_point}
 use Rattle.lhg_plant.specs.Plant.{PlainPlant}
 use Rattle.lhg_plant.specs.State.{PlainState}
 use Rattle.lhg_plant.specs.Loss.{PlainLoss}
-use Rattle.lhg_explain.specs.Explanation.{PlainNext, flows_on, flows_out, switches, PlainWay, PlainEscape, way_by, way_within, loss_at, next_by, explanation}
-use Rattle.lhg_explain.specs.Explained.{IsHeldBy, state_in}
+use Rattle.lhg_loss.specs.Explanation.{PlainNext, flows_on, flows_out, switches, way_by, way_within, loss_at, next_by, explanation}
+use Rattle.lhg_plant.specs.Explained.{PlainWay, PlainEscape}
+use Rattle.lhg_loss.specs.ExplainFacts.{IsHeldBy, state_in}
 use Rattle.lhg_explain.proofs.HeldRecords.{IsOnward}
 
 -- a way by its parts

@@ -1,4 +1,1 @@
-pub mod Explained
-pub mod Explanation
-pub mod Results
 pub mod Views

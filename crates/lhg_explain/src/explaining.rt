@@ -10,9 +10,11 @@ ghost use Rattle.lhg_plant.specs.Views.{plain_plant, plain_state};
 ghost use Rattle.lhg_loss.specs.StageFacts.{AreCounted};
 ghost use Rattle.lhg_loss.specs.Views.{plain_losses, AllHaveVars};
 ghost use Rattle.lhg_play.specs.Views.{plain_moves};
-ghost use Rattle.lhg_explain.specs.Explanation as calculus;
-ghost use Rattle.lhg_explain.specs.Explained.{AreRecords, IsHeldBy, IsExplained, FitsPlant, state_in};
-ghost use Rattle.lhg_explain.specs.Views.{plain_way, plain_escape};
+ghost use Rattle.lhg_loss.specs.Explanation as calculus;
+ghost use Rattle.lhg_loss.specs.ExplainFacts.{AreRecords, IsHeldBy, state_in};
+ghost use Rattle.lhg_plant.specs.Explained.{IsExplained, FitsPlant};
+ghost use Rattle.lhg_explain.specs.Views.{plain_way};
+ghost use Rattle.lhg_play.specs.Views.{plain_escape};
 
 use crate::following::{Next, next_from};
 use crate::laws::law_explain;

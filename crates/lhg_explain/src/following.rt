@@ -5,9 +5,9 @@ ghost use Rattle.lhg_motion.specs.Crossing.{HasCrossing};
 ghost use Rattle.lhg_plant.specs.Views.{plain_plant, plain_state};
 ghost use Rattle.lhg_loss.specs.Views.{plain_loss, plain_losses, AllHaveVars};
 ghost use Rattle.lhg_play.specs.Views.{plain_move};
-ghost use Rattle.lhg_explain.specs.Explanation as calculus;
-ghost use Rattle.lhg_explain.specs.Explained.{AreRecords, IsHeldBy, state_in};
-ghost use Rattle.lhg_explain.specs.Results.{HasResultBy};
+ghost use Rattle.lhg_loss.specs.Explanation as calculus;
+ghost use Rattle.lhg_loss.specs.ExplainFacts.{AreRecords, IsHeldBy, state_in};
+ghost use Rattle.lhg_loss.specs.Results.{HasResultBy};
 ghost use Rattle.lhg_explain.specs.Views.{plain_next};
 
 use crate::moves::{flow_from, result_from};

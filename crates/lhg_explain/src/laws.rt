@@ -5,7 +5,7 @@ ghost use Rattle.lhg_plant.specs.Plant.{PlainPlant};
 ghost use Rattle.lhg_plant.specs.Proper.{IsProper};
 ghost use Rattle.lhg_plant.specs.State.{PlainState, IsState};
 ghost use Rattle.lhg_loss.specs.Holding.{IsFirstHolding};
-ghost use Rattle.lhg_explain.specs.Explained.{IsHeldBy, ExplainLaw};
+ghost use Rattle.lhg_loss.specs.ExplainFacts.{IsHeldBy, ExplainLaw};
 
 /// What the calculus explains of a state that a sound record holds is an escape from it.
 pub fn law_explain()

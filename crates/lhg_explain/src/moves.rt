@@ -4,8 +4,8 @@ ghost use Rattle.lhg_num.specs.Halting.{IsHaltedByRows};
 ghost use Rattle.lhg_row.specs.Width.{AllWide};
 ghost use Rattle.lhg_motion.specs.Crossing.{HasCrossing};
 ghost use Rattle.lhg_play.specs.Views.{plain_move};
-ghost use Rattle.lhg_explain.specs.Explanation as calculus;
-ghost use Rattle.lhg_explain.specs.Results.{HasResult};
+ghost use Rattle.lhg_loss.specs.Explanation as calculus;
+ghost use Rattle.lhg_loss.specs.Results.{HasResult};
 
 use crate::samples::sample_of;
 use lhg_cross::cross_rows;

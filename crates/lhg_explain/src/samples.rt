@@ -5,7 +5,7 @@ ghost use Rattle.lhg_num.specs.Halting.{IsHaltedByMemory, IsHaltedByRows};
 ghost use Rattle.lhg_row.specs.Constant.{varies};
 ghost use Rattle.lhg_row.specs.HasValue.{HasPoint};
 ghost use Rattle.lhg_row.specs.Width.{AllWide};
-ghost use Rattle.lhg_explain.specs.Explanation as calculus;
+ghost use Rattle.lhg_loss.specs.Explanation as calculus;
 
 use lhg_num::{Frac, Halt, Scalar};
 use lhg_poly::make;

@@ -2,7 +2,7 @@
 ghost use Rattle.std.specs.Prelude.{ℕ};
 ghost use Rattle.lhg_math.specs.Tests.{AllOf};
 ghost use Rattle.lhg_loss.specs.Views.{plain_cause, plain_loss, plain_losses, CauseVars, LossVars, AllHaveVars};
-ghost use Rattle.lhg_explain.specs.Explained.{IsWideCause, IsWideLoss};
+ghost use Rattle.lhg_loss.specs.ExplainFacts.{IsWideCause, IsWideLoss};
 
 use lhg_loss::{Cause, Loss};
 

@@ -1,7 +1,10 @@
+pub mod ExplainFacts
+pub mod Explanation
 pub mod Holding
 pub mod Iterate
 pub mod LimitFacts
 pub mod Records
+pub mod Results
 pub mod RoundFacts
 pub mod RoundLaws
 pub mod SeekLaws

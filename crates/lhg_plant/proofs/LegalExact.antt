@@ -24,7 +24,7 @@ use Rattle.lhg_plant.specs.LegalTruths.{told_of, marked_change, flow_row_truth, 
 use Rattle.lhg_plant.proofs.Options.{some_weaken}
 
 -- what is told of the value is whether the fact holds of it
-told-exact : {A : Type 0} (f : A → Marked Bool) (P : A → Type 0) → ((x : A) → ((f x).value ≡ true) ↔ P x) → (o : Option A) → ((told_of f o).value ≡ true) ↔ IsSomeAnd o P
+pub told-exact : {A : Type 0} (f : A → Marked Bool) (P : A → Type 0) → ((x : A) → ((f x).value ≡ true) ↔ P x) → (o : Option A) → ((told_of f o).value ≡ true) ↔ IsSomeAnd o P
 told-exact f P h None = (λ e. false_true e, λ k. absurd k)
 told-exact f P h (Some x) = h x
 

@@ -30,6 +30,7 @@ pub mod RunAnswers
 pub mod RunDetermined
 pub mod RunExists
 pub mod RunInside
+pub mod SafeLines
 pub mod SafeStates
 pub mod Settled
 pub mod Solutions

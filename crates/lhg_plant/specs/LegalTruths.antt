@@ -1,4 +1,4 @@
--- Is a point in an invariant, and is a flow or a switch legal, and which numbers are formed to tell?
+-- Is a point in an invariant, is a state safe, and is a flow or a switch legal, and which numbers are formed to tell?
 use Rattle.std.specs.Prelude.{ℕ, Bool, false, ◌&&◌, ◌==◌, if◌then◌else◌, List, [], ◌∷◌, ◌++◌, Option, Some, None, slice_get}
 use Rattle.lhg_math.specs.Number.{Number, lt, nought}
 use Rattle.lhg_num.specs.Arithmetic.{Arithmetic}
@@ -6,7 +6,7 @@ use Rattle.lhg_num.specs.Marked.{Marked, done, and_then, valued, marked_sub, mar
 use Rattle.lhg_row.specs.Row.{PlainRow, PlainPoint}
 use Rattle.lhg_row.specs.Piece.{PlainPiece}
 use Rattle.lhg_row.specs.MarkedTests.{marked_all}
-use Rattle.lhg_row.specs.Truths.{piece_truth}
+use Rattle.lhg_row.specs.Truths.{piece_truth, some_truth}
 use Rattle.lhg_row.specs.Values.{plus_product, fits_order}
 use Rattle.lhg_plant.specs.Plant.{PlainLocation, PlainSwitch, PlainPlant}
 use Rattle.lhg_plant.specs.State.{PlainState}
@@ -42,6 +42,10 @@ flow_rows_truth a rows x t y = marked_all (λ r. flow_row_truth a r x t y) rows
 -- whether the state is one of the plant
 abbrev pub state_truth : Arithmetic → PlainPlant → PlainState → Marked Bool
 state_truth a p s = told_of (λ l. piece_truth a l.inv s.at) (slice_get p.locs s.loc)
+
+-- whether some safe line holds at the state
+abbrev pub safe_truth : Arithmetic → PlainPlant → PlainState → Marked Bool
+safe_truth a p s = told_of (λ l. some_truth a l.safe s.at) (slice_get p.locs s.loc)
 
 -- whether the flow from x to y in the time t is legal in the location; in no time there is none
 abbrev pub flow_truth : Arithmetic → PlainLocation → PlainPoint → Number → PlainPoint → Marked Bool

@@ -3,6 +3,7 @@ pub mod Controller
 pub mod Differ
 pub mod Escape
 pub mod Example
+pub mod Explained
 pub mod Inside
 pub mod Invariants
 pub mod Laws
@@ -22,6 +23,7 @@ pub mod Pre
 pub mod Printable
 pub mod Proper
 pub mod ProperOnce
+pub mod Rank
 pub mod Region
 pub mod Round
 pub mod Run
@@ -29,6 +31,7 @@ pub mod SafeRegion
 pub mod Solution
 pub mod Sound
 pub mod Split
+pub mod SpoilSteps
 pub mod State
 pub mod Still
 pub mod SwitchFacts

@@ -5,13 +5,14 @@ ghost use Rattle.lhg_num.specs.FracArithmetic.{frac_arithmetic};
 ghost use Rattle.lhg_num.specs.Halting.{IsWideBy};
 ghost use Rattle.lhg_plant.specs.Proper.{IsLocation, IsSwitch};
 ghost use Rattle.lhg_plant.specs.State.{IsState};
-ghost use Rattle.lhg_plant.specs.Legal.{LegalFlow, LegalSwitchTo};
+ghost use Rattle.lhg_plant.specs.declared.plants.Side.TheVariants.{Env};
+ghost use Rattle.lhg_plant.specs.Legal.{LegalFlow, LegalSwitchTo, HasSide};
 ghost use Rattle.lhg_plant.specs.LegalTruths.{state_truth, flow_truth, legal_flow_truth, switch_truth, legal_switch_truth};
 ghost use Rattle.lhg_plant.specs.Views.{plain_location, plain_switch, plain_plant, plain_state};
 
 use crate::flow_rows::all_let;
 use crate::jump_rows::all_hold_across;
-use crate::plants::{Location, Plant, Switch};
+use crate::plants::{Location, Plant, Side, Switch};
 use crate::states::State;
 use lhg_num::{Frac, Scalar, Wide};
 use lhg_row::{Point, all_hold};
@@ -100,6 +101,17 @@ fn leads(plant: &Plant, switch: &Switch, from: &State, to: &Point<Frac>) -> Resu
         return Ok(false);
     }
     all_hold_across(&switch.jump, &from.at, to)
+}
+
+/// Whether the switch is there and is the plant's.
+pub fn is_uncontrollable(plant: &Plant, switch: u32) -> bool
+    ensures { IsTrue result ↔ HasSide (plain_plant plant.now) switch Env }
+{
+    let e = switch as usize;
+    if e >= plant.switches.len() {
+        return false;
+    }
+    plant.switches[e].side == Side::Env
 }
 
 /// Whether the switch leaves the location of the state, and leads from the state to the point legally. It answers `Wide`

@@ -6,6 +6,7 @@ mod escapes;
 mod joining;
 mod places;
 mod plays;
+mod spoils;
 #[cfg(test)]
 mod tests;
 mod traces;
@@ -16,4 +17,5 @@ pub use joining::join_flow;
 pub use lhg_plant::StateSet;
 pub use places::point_at;
 pub use plays::{Move, Play};
+pub use spoils::SpoilStep;
 pub use traces::{Step, Trace};

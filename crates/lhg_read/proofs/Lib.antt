@@ -4,9 +4,11 @@ pub mod ChainSteps
 pub mod Collecting
 pub mod Cuts
 pub mod DraftSteps
+pub mod EndLine
 pub mod HeadLines
 pub mod LexedLines
 pub mod LineRows
+pub mod LineSizes
 pub mod LineTaken
 pub mod ListSteps
 pub mod PairRows
@@ -29,6 +31,7 @@ pub mod StateLines
 pub mod StateReading
 pub mod StateSteps
 pub mod SumSteps
+pub mod SwitchSteps
 pub mod TextEnds
 pub mod TextLawProofs
 pub mod VariableSteps

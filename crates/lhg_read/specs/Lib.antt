@@ -6,9 +6,12 @@ pub mod FaultLaws
 pub mod HeadTest
 pub mod Keep
 pub mod Lexed
+pub mod Listed
+pub mod ListedLaws
 pub mod Machine
 pub mod MachineLaws
 pub mod Names
+pub mod Numbered
 pub mod OptionLaws
 pub mod Options
 pub mod Pair
@@ -24,6 +27,7 @@ pub mod Rows
 pub mod Signs
 pub mod StateText
 pub mod Sum
+pub mod SwitchName
 pub mod Term
 pub mod TextLaws
 pub mod TokenLineLaws

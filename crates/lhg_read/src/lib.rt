@@ -3,6 +3,7 @@
 
 mod axes;
 mod constraints;
+mod digits;
 mod draft;
 mod forms;
 mod heads;
@@ -12,6 +13,7 @@ mod next_lines;
 mod operators;
 mod pairs;
 mod parts;
+mod places;
 mod plant;
 mod plant_lines;
 mod points;
@@ -27,10 +29,12 @@ mod terms;
 mod tests;
 
 pub use axes::still_rows;
+pub use digits::{counted_in, numbered};
 pub use forms::Form;
 pub use heads::is_head;
 pub use names::read_name;
 pub use next_lines::needed_line;
+pub use places::{controllable_named, location_named, uncontrollable_named};
 pub use plant::read_plant;
 pub use points::{point_from, read_point};
 pub use refusal::{Refusal, stop_at};

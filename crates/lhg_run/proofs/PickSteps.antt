@@ -5,6 +5,8 @@ use Rattle.lhg_math.specs.Tests.{AllOf}
 use Rattle.lhg_num.specs.FracArithmetic.{frac_arithmetic}
 use Rattle.lhg_num.specs.Marked.{Marked, valued, IsRest}
 use Rattle.lhg_num.specs.MarkedLaws.{IsPart}
+use Rattle.lhg_num.specs.PartLaws.{rest_step, step_part}
+use Rattle.lhg_math.specs.ListFacts.{drop_cons}
 use Rattle.lhg_row.specs.Row.{PlainPoint}
 use Rattle.lhg_row.specs.Piece.{PlainPiece}
 use Rattle.lhg_row.specs.System.{PlainSystem}
@@ -13,7 +15,6 @@ use Rattle.lhg_row.specs.WidthLaws.{append-wide}
 use Rattle.lhg_row.specs.PutIn.{put_in_each}
 use Rattle.lhg_row.specs.PutInLaws.{put_in-wide}
 use Rattle.lhg_row.specs.Sample.{sample}
-use Rattle.lhg_row.proofs.Steps.{drop_cons, rest_step, step_part}
 use Rattle.lhg_union.specs.PolyLists.{lines_of}
 use Rattle.lhg_plant.specs.Pick.{result_rows, results_in, sample_or, first_result}
 

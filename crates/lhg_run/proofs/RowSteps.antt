@@ -9,7 +9,7 @@ use Rattle.lhg_num.specs.declared.refusals.Halt.TheVariants.{Wide, Rows, Pieces,
 use Rattle.std.proofs.lemmas.Bool.{eq-eqb, eqb-true}
 use Rattle.std.specs.Global.{Vec}
 use Rattle.lhg_math.specs.Tests.{AllOf, by_bool}
-use Rattle.lhg_row.proofs.Steps.{drop_cons}
+use Rattle.lhg_math.specs.ListFacts.{drop_cons}
 use Rattle.lhg_row.specs.Row.{PlainRow}
 use Rattle.lhg_row.specs.System.{PlainSystem}
 use Rattle.lhg_row.specs.Width.{AllWide}
@@ -54,30 +54,6 @@ module _ (ws : List Switch) (gs : List (Vec PlainSystem)) (l e : ℕ) (w : Switc
 pub ok_then : {A : Type 0} (r : Result (Unit {0}) Halt) (v new : A) (P : Type 0) → IsHaltedByMemory r (done v) (λ _. new) → (new ≡ v → P) → OnOk r P
 ok_then (Ok x) v new P h f = f h
 ok_then (Err e) v new P h f = tt
-
--- a call that halts for want of memory alone
-pub err_memory : {T A : Type 0} (r : Result T Halt) (m : Marked A) (f : T → A) → IsHaltedByMemory r m f → IfErr r (λ h. h ≡ Memory)
-err_memory (Ok x) m f h = tt
-err_memory (Err Wide) m f h = absurd h
-err_memory (Err Rows) m f h = absurd h
-err_memory (Err Pieces) m f h = absurd h
-err_memory (Err Memory) m f h = refl
-
--- and is handed on
-pub memory_on : {T A : Type 0} (r : Result T Halt) (e : Halt) (m : Marked A) (f : T → A) → IsErrAnd r (λ d. d ≡ e) → e ≡ Memory → IsHaltedByMemory r m f
-memory_on (Ok x) e m f i k = absurd i
-memory_on {T} (Err d) e m f i k = subst (λ (w : Halt). IsHaltedByMemory {T = T} (Err w) m f) (sym (i ∙ k)) tt
-
--- what holds where a list was appended
-pub on_ok : {T E : Type 0} (r : Result T E) (P Q : Type 0) → (P → Q) → OnOk r P → OnOk r Q
-on_ok (Ok x) P Q f h = f h
-on_ok (Err e) P Q f h = tt
-
--- there is a member at each place
-pub some-at : {A : Type 0} (xs : List A) (i : ℕ) → i < length xs → (x : A) × (x ≡ get_or xs i x)
-some-at [] i h = absurd (omega arith)
-some-at (x ∷ xs) zero h = (x, refl)
-some-at (x ∷ xs) (suc i) h = some-at xs i (omega arith)
 
 -- ---- widths
 -- what holds of all lists holds of the one that stands at a place

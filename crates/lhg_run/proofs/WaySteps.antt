@@ -8,10 +8,10 @@ use Rattle.lhg_math.specs.Number.{Number, lt}
 use Rattle.lhg_math.specs.NumberOrder.{lt_irrefl, lt_asym, lt-le_trans}
 use Rattle.lhg_math.specs.Places.{IsPlace}
 use Rattle.lhg_math.specs.Tests.{AllOf, by_bool, false_true}
+use Rattle.lhg_math.specs.ListFacts.{drop_cons}
 use Rattle.lhg_row.specs.Decisions.{clash}
 use Rattle.lhg_row.specs.Members.{SomeOf, all_some, some_left, some_right, all-append, all_split}
 use Rattle.lhg_row.specs.Row.{PlainPoint}
-use Rattle.lhg_row.proofs.Steps.{drop_cons}
 use Rattle.lhg_motion.specs.Segment.{along}
 use Rattle.lhg_motion.specs.CheckPlaces.{check_is_place}
 use Rattle.lhg_play.specs.Checks.{IsAscending, AreChecks}

@@ -1,5 +1,5 @@
 // Entries that give a result: of an uncontrollable switch, and of the switch that is pending.
-ghost use Rattle.std.specs.Prelude.{◌≡◌, ◌<◌, ◌↔◌, ◌∷◌, [], length, Some, IsTrue};
+ghost use Rattle.std.specs.Prelude.{◌≡◌, ◌<◌, ◌∷◌, [], length, Some};
 ghost use Rattle.lhg_num.specs.Halting.{IsHaltedByMemory};
 ghost use Rattle.lhg_num.specs.Marked.{done};
 ghost use Rattle.lhg_plant.specs.declared.plants.Side.TheVariants.{Env};
@@ -17,7 +17,7 @@ ghost use Rattle.lhg_run.specs.Views.{plain_place};
 use crate::copies::copy_point;
 use crate::doing::Done;
 use lhg_num::{Frac, Halt};
-use lhg_plant::{Plant, Side, State, legal_switch};
+use lhg_plant::{Plant, State, is_uncontrollable, legal_switch};
 use lhg_play::Step;
 use lhg_row::Point;
 use std::alloc::Global;
@@ -69,17 +69,6 @@ pub(crate) fn land(
     let there = plant.switches[switch as usize].to;
     let step = Step::Land(state_at(alloc, there, to)?);
     Ok(Some(rested(alloc, step, there, to)?))
-}
-
-// Whether the switch is there and is the plant's.
-fn is_uncontrollable(plant: &Plant, switch: u32) -> bool
-    ensures { IsTrue result ↔ HasSide (plain_plant plant.now) switch Env }
-{
-    let e = switch as usize;
-    if e >= plant.switches.len() {
-        return false;
-    }
-    plant.switches[e].side == Side::Env
 }
 
 // The state at a point of a location.

@@ -4,9 +4,11 @@ use Rattle.lhg_plant.specs.Loss.{PlainLoss, InLoss}
 use Rattle.lhg_plant.specs.Views.{plain_plant, plain_state}
 use Rattle.lhg_loss.specs.declared.losses.Loss.{Loss}
 use Rattle.lhg_loss.specs.Views.{plain_losses}
-use Rattle.lhg_explain.specs.Explanation.{loss_at, way_within, explanation}
-use Rattle.lhg_explain.specs.Explained.{AreRecords, IsExplained}
-use Rattle.lhg_explain.specs.Views.{plain_way, plain_escape}
+use Rattle.lhg_loss.specs.Explanation.{loss_at, way_within, explanation}
+use Rattle.lhg_loss.specs.ExplainFacts.{AreRecords}
+use Rattle.lhg_plant.specs.Explained.{IsExplained}
+use Rattle.lhg_explain.specs.Views.{plain_way}
+use Rattle.lhg_play.specs.Views.{plain_escape}
 use Rattle.lhg_explain.proofs.Fitting.{explained_fits}
 use Rattle.lhg_explain.proofs.HeldRecords.{record_at}
 use Rattle.lhg_explain.proofs.NextSteps.{place_below, loss_plain}

@@ -7,8 +7,8 @@ use Rattle.lhg_motion.specs.Play.{PlainMove, last_point}
 use Rattle.lhg_plant.specs.Views.{plain_plant, plain_state}
 use Rattle.lhg_loss.specs.Views.{plain_losses}
 use Rattle.lhg_play.specs.Views.{plain_move, plain_moves}
-use Rattle.lhg_explain.specs.Explanation.{loss_at, next_by, way_within}
-use Rattle.lhg_explain.specs.Explained.{state_in}
+use Rattle.lhg_loss.specs.Explanation.{loss_at, next_by, way_within}
+use Rattle.lhg_loss.specs.ExplainFacts.{state_in}
 use Rattle.lhg_explain.specs.Views.{plain_next, plain_way}
 use Rattle.lhg_explain.proofs.HeldRecords.{record_at, onward_at}
 use Rattle.lhg_explain.proofs.WaySteps.{IsOnWay, way_of, step_part, ends_out, ends_by, goes_on}

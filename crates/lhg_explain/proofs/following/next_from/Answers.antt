@@ -6,7 +6,7 @@ use Rattle.lhg_plant.specs.Loss.{PlainLoss, by_env, by_leave, by_flow}
 use Rattle.lhg_plant.specs.Views.{plain_plant, plain_state}
 use Rattle.lhg_loss.specs.Views.{plain_cause, plain_loss, plain_losses}
 use Rattle.lhg_play.specs.Views.{plain_move}
-use Rattle.lhg_explain.specs.Explanation.{flows_on, flows_out, switches, loss_at, flow_by, switch_by, next_by}
+use Rattle.lhg_loss.specs.Explanation.{flows_on, flows_out, switches, loss_at, flow_by, switch_by, next_by}
 use Rattle.lhg_explain.specs.Views.{plain_next}
 use Rattle.lhg_explain.proofs.NextSteps.{step_from, vars_at, crosses_out, env_vars, leave_vars, flow_vars, step_loc, step_vars, step_part, step_value, step_switch, step_result, step_counted, step_further, step_crosses}
 use Rattle.lhg_explain.proofs.following.next_from.Goals as goal

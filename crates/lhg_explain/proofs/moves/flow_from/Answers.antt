@@ -9,7 +9,7 @@ use Rattle.lhg_row.specs.Width.{AllWide}
 use Rattle.lhg_row.specs.HasValue.{HasPoint}
 use Rattle.lhg_row.specs.PutIn.{put_in_each}
 use Rattle.lhg_motion.specs.CrossCalculus.{cross_rows}
-use Rattle.lhg_explain.specs.Explanation.{crossing_from}
+use Rattle.lhg_loss.specs.Explanation.{crossing_from}
 use Rattle.lhg_explain.proofs.CodeSteps.{wide_long}
 use Rattle.lhg_explain.proofs.FlowPoints.{rows-wide, flows-wide, flows-point}
 use Rattle.lhg_explain.proofs.moves.flow_from.Goals as goal

@@ -1,7 +1,9 @@
 use Rattle.std.proofs.Common.{◌<◌, ◌++◌, length, ap, ◌∙◌, refl, subst, sym, arith}
+use Rattle.lhg_math.specs.ListFacts.{member-at}
+use Rattle.lhg_num.specs.AnswerLaws.{err_memory}
 use Rattle.lhg_motion.specs.CheckPoint.{rows_of}
 use Rattle.lhg_union.specs.PolyLists.{lines_of, AllVars}
-use Rattle.lhg_run.proofs.RowSteps.{guards-taken, guards-passed, some-at, vars-at, ok_then, err_memory}
+use Rattle.lhg_run.proofs.RowSteps.{guards-taken, guards-passed, vars-at, ok_then}
 use Rattle.lhg_run.proofs.rows.append_guard.Goals as goal
 
 pub returns-then-switch-loc-clause-rows : goal.returns-then-switch-loc-clause-rows
@@ -10,7 +12,7 @@ returns-then-switch-loc-clause-rows c =
     let gs = c.args.guards.now in
     let e = c.args.e in
     let in_gs : e < length gs = omega (arith, c.requires.there, c.requires.many) in
-    let g = some-at gs e in_gs in
+    let g = member-at gs e in_gs in
     guards-passed ws gs c.args.loc e c.index-switch.result.now g.0 c.index-switch.ensures g.1 c.requires.there in_gs _ c.args.rows.now.items refl c.if-switch-loc.true
 
 pub returns-clause-rows : goal.returns-clause-rows

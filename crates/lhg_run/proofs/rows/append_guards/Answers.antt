@@ -1,9 +1,10 @@
 use Rattle.std.proofs.Common.{◌∙◌}
-use Rattle.lhg_run.proofs.RowSteps.{memory_on}
+use Rattle.lhg_num.specs.Halting.{of_memory}
+use Rattle.lhg_num.specs.AnswerLaws.{memory_on}
 use Rattle.lhg_run.proofs.rows.append_guards.Goals as goal
 
 pub returns-in_err-append_guard-clause-rows : goal.returns-in_err-append_guard-clause-rows
-returns-in_err-append_guard-clause-rows c = memory_on c.from_residual.result c.in_err-append_guard.field-0.0 _ _ c.from_residual.ensures.1 c.in_err-append_guard.ensures.err
+returns-in_err-append_guard-clause-rows c = memory_on of_memory c.from_residual.result c.in_err-append_guard.field-0.0 _ _ c.from_residual.ensures.1 c.in_err-append_guard.ensures.err
 
 pub loop-e-preserved : goal.loop-e-preserved
 loop-e-preserved c = record {

@@ -1,6 +1,6 @@
 use Rattle.std.proofs.Common.{◌≡◌, ◌++◌, List, ap, sym, ◌∙◌, append_assoc, drop, ◌+◌}
+use Rattle.lhg_math.specs.ListFacts.{drop_cons}
 use Rattle.lhg_row.specs.System.{PlainSystem}
-use Rattle.lhg_row.proofs.Steps.{drop_cons}
 use Rattle.lhg_motion.specs.CheckPoint.{rows_of}
 use Rattle.lhg_union.specs.PolyLists.{lines_of}
 use Rattle.lhg_run.proofs.RowSteps.{wide-more}

@@ -25,7 +25,11 @@ natural_in token = None
 abbrev pub in_digits : ℕ → ℕ → ℕ → Option ℕ
 in_digits most size n = if nat_le n most && (size == length (decimal n)) then Some n else None
 
+-- the number, at most so large, that a token of this size is in digits without a leading zero
+abbrev pub counted_in : ℕ → PlainToken → ℕ → Option ℕ
+counted_in most token size = option_and_then (in_digits most size) (natural_in token)
+
 -- the number, at most so large, that the tokens of these sizes give: the word, and the number in digits without a leading zero
 abbrev pub numbered : List ℕ → ℕ → List PlainToken → List ℕ → Option ℕ
-numbered w most (first ∷ second ∷ []) (m ∷ n ∷ []) = if is_word w first then option_and_then (in_digits most n) (natural_in second) else None
+numbered w most (first ∷ second ∷ []) (m ∷ n ∷ []) = if is_word w first then counted_in most second n else None
 numbered w most _ _ = None

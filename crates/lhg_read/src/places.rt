@@ -6,14 +6,15 @@ ghost use Rattle.lhg_lex.specs.TextTokens.{plain_of, IsSpan};
 ghost use Rattle.lhg_plant.specs.Views.{plain_plant};
 ghost use Rattle.lhg_read.specs.Lexed.{IsLexed};
 ghost use Rattle.lhg_read.specs.StateText.{location_in};
-ghost use Rattle.lhg_ctl.specs.ControllerLine.{is_controllable, is_uncontrollable, switch_in};
+ghost use Rattle.lhg_read.specs.SwitchName.{is_controllable, is_uncontrollable, switch_in};
 
+use crate::names::read_name;
+use crate::switches::place_in;
 use lhg_lex::{Lines, Token};
 use lhg_plant::{Name, Plant, Side, Switch};
-use lhg_read::{place_in, read_name};
 
 /// The place of the location that the token names.
-pub(crate) fn location_named(lines: &Lines, plant: &Plant, token: &Token) -> Option<u32>
+pub fn location_named(lines: &Lines, plant: &Plant, token: &Token) -> Option<u32>
     requires span { IsSpan lines.now.bytes token.now }
     requires word { IsLexed (plain_of lines.now.bytes token.now) }
     ensures place { result ≡ location_in (plain_plant plant.now) (plain_of lines.now.bytes token.now) }
@@ -59,7 +60,7 @@ fn is_uncontrollable(side: Side) -> bool
 }
 
 /// The place of the controllable switch that the token names.
-pub(crate) fn controllable_named(lines: &Lines, plant: &Plant, token: &Token) -> Option<u32>
+pub fn controllable_named(lines: &Lines, plant: &Plant, token: &Token) -> Option<u32>
     requires span { IsSpan lines.now.bytes token.now }
     requires word { IsLexed (plain_of lines.now.bytes token.now) }
     ensures place { result ≡ switch_in is_controllable (plain_plant plant.now) (plain_of lines.now.bytes token.now) }
@@ -78,7 +79,7 @@ pub(crate) fn controllable_named(lines: &Lines, plant: &Plant, token: &Token) ->
 }
 
 /// The place of the uncontrollable switch that the token names.
-pub(crate) fn uncontrollable_named(lines: &Lines, plant: &Plant, token: &Token) -> Option<u32>
+pub fn uncontrollable_named(lines: &Lines, plant: &Plant, token: &Token) -> Option<u32>
     requires span { IsSpan lines.now.bytes token.now }
     requires word { IsLexed (plain_of lines.now.bytes token.now) }
     ensures { result ≡ switch_in is_uncontrollable (plain_plant plant.now) (plain_of lines.now.bytes token.now) }

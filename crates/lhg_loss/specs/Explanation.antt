@@ -13,6 +13,7 @@ use Rattle.lhg_motion.specs.CrossCalculus.{cross_rows}
 use Rattle.lhg_motion.specs.Play.{PlainMove}
 use Rattle.lhg_plant.specs.Plant.{PlainPlant, PlainLocation, PlainSwitch}
 use Rattle.lhg_plant.specs.State.{PlainState}
+use Rattle.lhg_plant.specs.Explained.{PlainWay, PlainEscape}
 use Rattle.lhg_plant.specs.Loss.{PlainCause, by_env, by_leave, by_flow, PlainLoss}
 
 -- ---- samples
@@ -77,11 +78,6 @@ next_by a losses r x (by_leave through into) = valued flows_out (flow_by a r x t
 next_by a losses r x (by_flow m through) = valued (λ move. flows_on move m) (flow_by a r x through (loss_at losses m).piece)
 
 -- ---- explanations
--- the flows of a play, and the switch by which its last point is left, with its result, where there is one
-pub record PlainWay : Type 0 where
-  pub moves : List PlainMove
-  pub last : Option (ℕ × PlainState)
-
 -- the way after a flow
 abbrev pub onward : PlainMove → PlainWay → PlainWay
 onward move way = record { moves = move ∷ way.moves; last = way.last }
@@ -96,12 +92,6 @@ way_by losses further (switches e y) = done (record { moves = []; last = Some (e
 abbrev pub way_within : ℕ → PlainPlant → List PlainLoss → PlainLoss → PlainPoint → Marked PlainWay
 way_within zero a losses r x = done (record { moves = []; last = None })
 way_within (suc left) a losses r x = and_then (next_by a losses r x r.cause) (way_by losses (way_within left a losses))
-
--- a play from a state, the switch by which its last point is left, and the round in which the state was removed
-pub record PlainEscape : Type 0 where
-  pub round : ℕ
-  pub start : PlainState
-  pub way : PlainWay
 
 -- the explanation of a state by the record with a number, which holds it
 unfoldable pub explanation : PlainPlant → List PlainLoss → ℕ → PlainState → Marked PlainEscape

@@ -2,9 +2,9 @@ use Rattle.std.proofs.Common.{◌<◌, ◌∙◌, sym, ap, subst, map, length, c
 use Rattle.std.specs.Option.{option_and_then}
 use Rattle.lhg_lex.specs.TextTokens.{plain_of}
 use Rattle.lhg_plant.specs.Views.{plain_switch, plain_plant}
-use Rattle.lhg_ctl.specs.ControllerLine.{is_uncontrollable, if_of}
-use Rattle.lhg_ctl.proofs.LineSteps.{switch_found, side_at}
-use Rattle.lhg_ctl.proofs.places.uncontrollable_named.Goals as goal
+use Rattle.lhg_read.specs.SwitchName.{is_uncontrollable, if_of}
+use Rattle.lhg_read.proofs.SwitchSteps.{switch_found, side_at}
+use Rattle.lhg_read.proofs.places.uncontrollable_named.Goals as goal
 
 pub returns-in_default-place_of : goal.returns-in_default-place_of
 returns-in_default-place_of c =

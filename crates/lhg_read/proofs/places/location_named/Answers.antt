@@ -2,7 +2,7 @@ use Rattle.std.proofs.Common.{◌∙◌, sym, ap, map}
 use Rattle.lhg_lex.specs.TextTokens.{plain_of}
 use Rattle.lhg_plant.specs.Views.{plain_location, plain_plant}
 use Rattle.lhg_read.proofs.StateSteps.{location_is}
-use Rattle.lhg_ctl.proofs.places.location_named.Goals as goal
+use Rattle.lhg_read.proofs.places.location_named.Goals as goal
 
 pub returns-in_default-place_in-clause-place : goal.returns-in_default-place_in-clause-place
 returns-in_default-place_in-clause-place c =
