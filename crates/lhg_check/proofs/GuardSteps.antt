@@ -120,10 +120,6 @@ module _ (a : PlainPlant) (c : PlainController) (away : PlainRegion) where
   abbrev pub at_each : PlainRegion → Marked (List (List PlainPiece))
   at_each invs = each (broken_at a invs away c) (numbered 0 a.switches)
 
-  pub guards-invs : IsPart (broken_guards a c away) (invariants a)
-  unfolding broken_guards
-  guards-invs = and_then-part (invariants a) at_each
-
   pub guards-rest : IsRest (broken_guards a c away) (at_each (invariants a).value)
   unfolding broken_guards
   guards-rest = and_then-rest (invariants a) at_each

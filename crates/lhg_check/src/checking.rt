@@ -14,7 +14,7 @@ use crate::guarding::first_broken;
 use crate::safety::first_unsafe;
 use crate::verdicts::Verdict;
 use lhg_ctl::Controller;
-use lhg_jump::out;
+use lhg_jump::{invariants, out_with};
 use lhg_num::Halt;
 use lhg_plant::Plant;
 use lhg_union::tell_lists;
@@ -38,8 +38,9 @@ pub fn check(alloc: Global, plant: &Plant, controller: &Controller) -> Result<Ve
         let state = sample_in(alloc, first.place, &first.piece)?;
         return Ok(Verdict::Unsafe(state));
     }
-    let outs = out(alloc, plant, &controller.region)?;
-    let broken = first_broken(alloc, plant, controller, &outs.away)?;
+    let invs = invariants(alloc, plant)?;
+    let outs = out_with(alloc, plant, &invs, &controller.region)?;
+    let broken = first_broken(alloc, plant, controller, &invs, &outs.away)?;
     if let Some(first) = broken {
         let from = plant.switches[first.place as usize].from;
         let state = sample_in(alloc, from, &first.piece)?;

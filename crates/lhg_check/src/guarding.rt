@@ -6,40 +6,41 @@ ghost use Rattle.lhg_plant.specs.Inside.{AllInside};
 ghost use Rattle.lhg_plant.specs.Views.{plain_plant, plain_switch};
 ghost use Rattle.lhg_union.specs.PolyLists.{lines_of, AllVars};
 ghost use Rattle.lhg_union.specs.Regions.{plain_region};
-ghost use Rattle.lhg_jump.specs.PlantLists.{IsRegionOf};
+ghost use Rattle.lhg_jump.specs.PlantLists.{IsRegionOf, AreInvariantsOf};
 ghost use Rattle.lhg_ctl.specs.Views.{plain_controller};
 ghost use Rattle.lhg_check.specs.Check as calculus;
 ghost use Rattle.lhg_check.specs.Views.{plain_piece, plain_first, IsFirstAmong, IsChecked};
 
 use crate::firsts::{First, first_left, first_of};
 use lhg_ctl::Controller;
-use lhg_jump::{invariants, pre};
+use lhg_jump::pre;
 use lhg_num::{Frac, Halt};
 use lhg_plant::{Plant, Side, Switch};
 use lhg_poly::Poly;
 use lhg_union::{Region, meet_lists};
 use std::alloc::Global;
 
-/// The first piece of the states that break a guard, in the order of the switches, where `away` is the states outside the region.
+/// The first piece of the states that break a guard, in the order of the switches, where `invs` is the invariants and `away` the states outside the region.
 pub(crate) fn first_broken(
     alloc: Global,
     plant: &Plant,
     controller: &Controller,
+    invs: &[Vec<Poly<Frac>>],
     away: &Region<Frac>,
 ) -> Result<Option<First>, Halt>
     requires controller { IsChecked plant.now controller.now }
+    requires invs { AreInvariantsOf plant.now invs.now }
     requires away { IsRegionOf plant.now away.now.pieces.items }
     ensures calculus { IsHaltedBy result (valued calculus.first_piece (calculus.broken_guards (plain_plant plant.now) (plain_controller controller.now) (plain_region away.now.pieces.items))) plain_first }
     ensures among { IfOk result (λ o. IfSome o (IsFirstAmong (length plant.now.vars.items) (length plant.now.switches.items))) }
 {
-    let invs = invariants(alloc, plant)?;
     for e in 0..plant.switches.len() {
         let switch = &plant.switches[e];
         let piece = broken_by(
             alloc,
             plant,
             controller,
-            &invs,
+            invs,
             &away.pieces,
             e as u32,
             switch,

@@ -1,10 +1,11 @@
 pub mod Built
+pub mod CarriedSteps
 pub mod Halting
 pub mod NearSteps
+pub mod PassSteps
 pub mod PlaceSteps
 pub mod RecordSteps
 pub mod RoundSteps
-pub mod SafeLines
 pub mod SeekSteps
 pub mod Settling
 pub mod SoughtAnswers

@@ -33,7 +33,7 @@ use Rattle.lhg_loss.specs.RoundLaws.{RoundLaw}
 use Rattle.lhg_loss.specs.declared.losses.Loss.{Loss}
 use Rattle.lhg_loss.specs.Views.{plain_loss, plain_losses}
 use Rattle.lhg_iterate.specs.declared.rounds.Round.{Round}
-use Rattle.lhg_iterate.specs.RoundViews.{plain_round, IsOverPlant}
+use Rattle.lhg_iterate.specs.RoundViews.{plain_round}
 
 -- ---- the region
 region_polys : (n : ℕ) (xs : List (Vec PlainSystem)) → AllOf (λ ps. AllOf (λ p. p.width ≡ n) ps.items) xs → AllOf (λ ps. ArePolys frac_arithmetic ps.items) xs → AllOf (AllPolys frac_arithmetic n) (plain_region xs)

@@ -1,10 +1,12 @@
 -- From one stage of the iteration to the next.
-use Rattle.std.proofs.Common.{◌≡◌, ◌+◌, ◌<◌, ◌≤◌, ℕ, zero, suc, Bool, true, false, not, List, [], ◌∷◌, ◌++◌, length, drop, refl, sym, ap, ◌∙◌, subst, arith, length-append}
-use Rattle.std.specs.Prelude.{nat_lt}
+use Rattle.std.proofs.Common.{◌≡◌, ◌+◌, ◌-◌, ◌<◌, ◌≤◌, ℕ, zero, suc, false, List, [], ◌∷◌, ◌++◌, length, drop, Option, Some, None, refl, sym, ap, ◌∙◌, subst, arith, length-append}
+use Rattle.std.specs.Option.{SomeIff}
+use Rattle.std.proofs.lemmas.Bool.{lt-ltb}
 use Rattle.std.proofs.lemmas.List.{length-map, map-append}
 use Rattle.lhg_num.specs.MarkedLaws.{IsPart}
 use Rattle.lhg_row.specs.Members.{all-append}
 use Rattle.lhg_plant.specs.declared.plants.Plant.{Plant}
+use Rattle.lhg_plant.specs.Loss.{PlainLoss}
 use Rattle.lhg_plant.specs.Plant.{PlainPlant}
 use Rattle.lhg_plant.specs.Region.{PlainRegion}
 use Rattle.lhg_plant.specs.Round.{IsRemovedIn}
@@ -19,6 +21,9 @@ use Rattle.lhg_loss.specs.SolveLaws.{StageLaws}
 use Rattle.lhg_loss.specs.StageFacts.{IsStage}
 use Rattle.lhg_loss.specs.Views.{plain_loss, plain_losses, LossVars, AllHaveVars}
 use Rattle.lhg_loss.specs.WorkLaws.{StepLaws}
+use Rattle.lhg_quiet.specs.Quiet.{AreQuiet}
+use Rattle.lhg_iterate.specs.Carrying.{IsCarriedTo}
+use Rattle.lhg_iterate.specs.declared.carried.Carried.{Carried}
 use Rattle.lhg_iterate.specs.declared.rounds.Round.{Round}
 use Rattle.lhg_iterate.specs.declared.stages.Stage.{Stage}
 use Rattle.lhg_iterate.specs.RoundViews.{plain_round, IsOverPlant}
@@ -27,10 +32,31 @@ use Rattle.lhg_iterate.specs.Stops.{IsStageStopIn}
 use Rattle.lhg_iterate.proofs.StopSteps.{stage-round, stage-totals}
 
 -- ---- lists of records
+-- the rows of two lists
+pub rows-append : (xs ys : List PlainLoss) → loss_rows (xs ++ ys) ≡ loss_rows xs + loss_rows ys
+rows-append [] ys = let e : loss_rows ys ≡ 0 + loss_rows ys = omega arith in e
+rows-append (x ∷ xs) ys = let rest = rows-append xs ys in omega arith
+
 -- some record
 pub some-lost : (losses : List Loss) → 0 < length losses → none_lost (plain_losses losses) ≡ false
 some-lost [] h = absurd (omega arith)
 some-lost (r ∷ rs) h = refl
+
+-- the rows that are left after those of records
+pub left-rows : (o : Option ℕ) (left most : ℕ) (held losses : List Loss) → held ≡ losses → o ≡ Some left → SomeIff o (loss_rows (plain_losses held) ≤ most) (most - loss_rows (plain_losses held)) → left + loss_rows (plain_losses losses) ≡ most
+left-rows o left most held losses e is h =
+    let same = ap (λ ls. loss_rows (plain_losses ls)) e in
+    let both = subst (λ x. SomeIff x (loss_rows (plain_losses held) ≤ most) (most - loss_rows (plain_losses held))) is h in
+    let few = both.0 in
+    let rest = both.1 in
+    omega arith
+
+-- there are too few
+pub past-rows : (o : Option ℕ) (most : ℕ) (held losses : List Loss) → held ≡ losses → o ≡ None → SomeIff o (loss_rows (plain_losses held) ≤ most) (most - loss_rows (plain_losses held)) → most < loss_rows (plain_losses losses)
+past-rows o most held losses e is h =
+    let same = ap (λ ls. loss_rows (plain_losses ls)) e in
+    let more = subst (λ x. SomeIff x (loss_rows (plain_losses held) ≤ most) (most - loss_rows (plain_losses held))) is h in
+    omega arith
 
 -- no record
 pub none-lost : (losses : List Loss) → length losses ≡ 0 → plain_losses losses ≡ []
@@ -60,8 +86,9 @@ first-form s none =
     ap (λ x. form x (drop s.before s.losses.items)) none ∙ ap (form []) (drop-none s.before s.losses.items none)
 
 pub begins : (p : Plant) (budget : ℕ) (s : Stage) → StageLaws (plain_plant p) → StepLaws (plain_plant p) → s.losses.items ≡ []
-    → plain_region s.region.pieces.items ≡ (safe_region (plain_plant p)).value → length s.region.pieces.items ≡ length p.locs.items → IsOverPlant p s.region.pieces.items → IsAfter p budget 0 s
-begins p budget s laws steps none safe many vars =
+    → plain_region s.region.pieces.items ≡ (safe_region (plain_plant p)).value → length s.region.pieces.items ≡ length p.locs.items → IsOverPlant p s.region.pieces.items
+    → s.rows_left ≡ record_row_limit → AreQuiet (plain_plant p) (plain_region s.region.pieces.items) s.quiet.items → IsCarriedTo p s.region.pieces.items s.carried → IsAfter p budget 0 s
+begins p budget s laws steps none safe many vars rows quiet carried =
     let a = plain_plant p in
     let same : plain_stage s ≡ (stage a 0).value = first-form s none ∙ ap first_stage safe ∙ sym (safe_stage a) in
     record {
@@ -75,7 +102,32 @@ begins p budget s laws steps none safe many vars =
       vars = vars;
       losses_vars = subst (AllHaveVars (length p.vars.items)) (sym none) tt;
       few = let e = ap length none in omega arith;
+      rows = let e = ap (λ ls. loss_rows (plain_losses ls)) none in omega arith;
+      quiet = quiet;
+      carried = carried;
     }
+
+-- a stage of which only what is carried has changed
+abbrev pub carrying : Stage → Carried → Stage
+carrying s c = record { region = s.region; losses = s.losses; before = s.before; rows_left = s.rows_left; quiet = s.quiet; carried = c }
+
+-- it is one after the same round
+pub carried-after : (p : Plant) (budget i : ℕ) (s : Stage) (c : Carried) → IsAfter p budget i s → IsCarriedTo p s.region.pieces.items c → IsAfter p budget i (carrying s c)
+carried-after p budget i s c h carried = record {
+  same = h.same;
+  stage_is = h.stage_is;
+  computed = h.computed;
+  rest = h.rest;
+  removed = h.removed;
+  some_last = h.some_last;
+  many = h.many;
+  vars = h.vars;
+  losses_vars = h.losses_vars;
+  few = h.few;
+  rows = h.rows;
+  quiet = h.quiet;
+  carried = carried;
+}
 
 -- ---- a round on a stage
 module _ (p : Plant) (budget i : ℕ) (s : Stage) (number first : ℕ) (number_is : number ≡ suc i) (first_is : first ≡ length s.losses.items + 1) where
@@ -124,18 +176,24 @@ module _ (p : Plant) (budget i : ℕ) (s : Stage) (r : Round) (h : IsAfter p bud
       subst (λ t. IsPart (stage (plain_plant p) (suc i)) (counted_stage t))
       (ap (λ x. after_round (stage (plain_plant p) i).value x) round-there ∙ ap (λ t. after_round t (plain_round r)) (sym h.same)) (stage-totals (plain_plant p) i)
 
+  -- the rows of all records
+  rows-of-both : (all : List Loss) → all ≡ s.losses.items ++ r.losses.items → loss_rows (plain_losses all) ≡ loss_rows (plain_losses s.losses.items) + loss_rows (plain_losses r.losses.items)
+  rows-of-both all all_are =
+      ap (λ ls. loss_rows (plain_losses ls)) all_are ∙ ap loss_rows (map-append plain_loss s.losses.items r.losses.items) ∙ rows-append (plain_losses s.losses.items) (plain_losses r.losses.items)
+
   -- where the rows of all records are past their limit, so are the totals
-  pub totals-stop : i < budget → (all : List Loss) → all ≡ s.losses.items ++ r.losses.items → nat_lt record_row_limit (loss_rows (plain_losses all)) ≡ true
-      → (number : ℕ) → number ≡ suc i → IsStageStopIn (plain_plant p) budget (suc i) number (λ m. m.pieces)
-  totals-stop less all all_are past number number_is = record {
+  pub totals-stop : i < budget → s.rows_left < loss_rows (plain_losses r.losses.items) → (number : ℕ) → number ≡ suc i → IsStageStopIn (plain_plant p) budget (suc i) number (λ m. m.pieces)
+  totals-stop less past number number_is = record {
     number_is = number_is;
     within = omega arith;
     computed = h.computed;
-    marked = totals-part.pieces (ap (λ ls. nat_lt record_row_limit (loss_rows ls)) (sym (ap plain_losses all_are ∙ map-append plain_loss s.losses.items r.losses.items)) ∙ past);
+    marked = totals-part.pieces (lt-ltb record_row_limit (loss_rows (plain_losses s.losses.items ++ plain_losses r.losses.items))
+        (let all = rows-append (plain_losses s.losses.items) (plain_losses r.losses.items) in let before = h.rows in omega arith));
   }
 
   module _ (t : Stage) (laws : StageLaws (plain_plant p)) (steps : StepLaws (plain_plant p)) (some : 0 < length r.losses.items)
-      (region_is : t.region.pieces.items ≡ r.next.pieces.items) (losses_are : t.losses.items ≡ s.losses.items ++ r.losses.items) (before_is : t.before ≡ length s.losses.items) where
+      (region_is : t.region.pieces.items ≡ r.next.pieces.items) (losses_are : t.losses.items ≡ s.losses.items ++ r.losses.items) (before_is : t.before ≡ length s.losses.items)
+      (rows_are : t.rows_left + loss_rows (plain_losses r.losses.items) ≡ s.rows_left) (quiet_is : AreQuiet (plain_plant p) (plain_region t.region.pieces.items) t.quiet.items) (carried_is : IsCarriedTo p t.region.pieces.items t.carried) where
     abbrev none : none_lost (plain_round r).losses ≡ false
     none = some-lost r.losses.items some
 
@@ -169,13 +227,11 @@ module _ (p : Plant) (budget i : ℕ) (s : Stage) (r : Round) (h : IsAfter p bud
           vars = subst (IsOverPlant p) (sym region_is) k.vars;
           losses_vars = subst (AllHaveVars n) (sym losses_are) (all-append (LossVars n) s.losses.items r.losses.items h.losses_vars k.losses_vars);
           few = let long = ap length losses_are ∙ length-append s.losses.items r.losses.items in let f = k.few in omega arith;
+          rows = (let all = rows-of-both t.losses.items losses_are in let before = h.rows in omega arith);
+          quiet = quiet_is;
+          carried = carried_is;
         }
 
     -- its number as the code counts
     pub after-next : IsAfter p budget (i + 1) t
     after-next = let e : suc i ≡ i + 1 = omega arith in subst (λ k. IsAfter p budget k t) e after
-
--- a test that fails
-pub not-true : (b : Bool) → false ≡ not b → b ≡ true
-not-true true h = refl
-not-true false h = cc

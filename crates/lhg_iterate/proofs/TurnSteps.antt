@@ -1,11 +1,7 @@
 -- What one more round tells of a state that is sought.
 use Rattle.std.proofs.Common.{◌≡◌, ◌<◌, ◌+◌, ℕ, suc, true, List, [], ◌∷◌, ◌++◌, length, map, Option, Some, None, refl, sym, ap, ◌∙◌, subst, arith}
-use Rattle.lhg_math.specs.Tests.{AllOf}
-use Rattle.lhg_row.specs.Piece.{PlainPiece}
-use Rattle.lhg_row.specs.Width.{AllWide}
 use Rattle.lhg_plant.specs.declared.plants.Plant.{Plant}
 use Rattle.lhg_plant.specs.Plant.{PlainPlant}
-use Rattle.lhg_plant.specs.Proper.{IsLine}
 use Rattle.lhg_plant.specs.State.{PlainState}
 use Rattle.lhg_plant.specs.Views.{plain_plant}
 use Rattle.lhg_loss.specs.declared.losses.Loss.{Loss}
@@ -30,11 +26,6 @@ pub over_of : (n : ℕ) (losses : List Loss) → AllHaveVars n losses → AreOve
 over_of n [] h = tt
 over_of n (r ∷ rs) h = (h.0.0, over_of n rs h.1)
 
--- lines have rows over n variables
-pub lines_wide : {A : Type 0} (n : ℕ) (f : A → PlainPiece) (xs : List A) → AllOf (IsLine n) (map f xs) → AllOf (λ x. AllWide n (f x)) xs
-lines_wide n f [] h = tt
-lines_wide n f (x ∷ xs) h = (h.0.wide, lines_wide n f xs h.1)
-
 -- the stage of round 0 has no record
 none_first : (a : PlainPlant) (z : PlainState) → (holding z (stage a 0).value.last).value ≡ None
 unfolding stage
@@ -43,6 +34,14 @@ none_first a z = refl
 -- so none holds a state
 pub first_unheld : (p : Plant) (budget : ℕ) (z : PlainState) (s : Stage) → IsAfter p budget 0 s → (holding z (plain_stage s).last).value ≡ None
 first_unheld p budget z s h = ap (λ (t : PlainStage). (holding z t.last).value) h.same ∙ none_first (plain_plant p) z
+
+-- a stage of which only what is carried has changed
+pub still-same : (p : Plant) (budget i : ℕ) (z : PlainState) (s t : Stage) → IsStillIn p budget i z s → IsAfter p budget i t → plain_stage t ≡ plain_stage s → IsStillIn p budget i z t
+still-same p budget i z s t still after same = record {
+  after = after;
+  kept = still.kept;
+  unheld = ap (λ (x : PlainStage). (holding z x.last).value) same ∙ still.unheld;
+}
 
 module _ (p : Plant) (budget i : ℕ) (z : PlainState) (s : Stage) (r : Round) (still : IsStillIn p budget i z s) (k : IsRoundAfter p i s r) (less : i < budget) (seeks : SeekLaw (plain_plant p)) where
   abbrev a : PlainPlant

@@ -1,3 +1,4 @@
+pub mod Carrying
 pub mod Naming
 pub mod Outcomes
 pub mod RoundViews

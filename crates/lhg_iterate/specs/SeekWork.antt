@@ -1,9 +1,6 @@
 -- What is formed to seek a state, and which round decides?
-use Rattle.std.specs.Prelude.{◌<◌, ℕ, Bool, cond, List, nat_eq, slice_get, Option, Some, None}
-use Rattle.lhg_num.specs.Arithmetic.{Arithmetic}
+use Rattle.std.specs.Prelude.{◌<◌, ℕ, cond, List, nat_eq, Option, Some, None}
 use Rattle.lhg_num.specs.Marked.{Marked, done, and_then, valued}
-use Rattle.lhg_row.specs.Truths.{some_truth}
-use Rattle.lhg_plant.specs.LegalTruths.{told_of}
 use Rattle.lhg_plant.specs.Plant.{PlainPlant}
 use Rattle.lhg_plant.specs.State.{PlainState, IsSafe}
 use Rattle.lhg_plant.specs.Round.{InRound}
@@ -11,10 +8,6 @@ use Rattle.lhg_plant.specs.Loss.{PlainLoss}
 use Rattle.lhg_loss.specs.Holding.{holding}
 use Rattle.lhg_loss.specs.Iterate.{stage, nothing, spent_state}
 use Rattle.lhg_loss.specs.StageFacts.{RemovesSome}
-
--- whether some safe line holds at the state
-abbrev pub safe_truth : Arithmetic → PlainPlant → PlainState → Marked Bool
-safe_truth n a z = told_of (λ l. some_truth n l.safe z.at) (slice_get a.locs z.loc)
 
 -- no round before this one decides: the safe state is in each of them, and each removes a state
 pub record IsUndecided (a : PlainPlant) (i : ℕ) (z : PlainState) : Type 0 where

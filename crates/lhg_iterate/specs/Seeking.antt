@@ -2,7 +2,7 @@
 use Rattle.std.specs.Prelude.{◌≡◌, ◌⊎◌, ◌<◌, ◌≤◌, ℕ, Bool, true, List, Some, Contains}
 use Rattle.lhg_num.specs.FracArithmetic.{frac_arithmetic}
 use Rattle.lhg_num.specs.Marked.{Marked}
-use Rattle.lhg_plant.specs.LegalTruths.{state_truth}
+use Rattle.lhg_plant.specs.LegalTruths.{state_truth, safe_truth}
 use Rattle.lhg_plant.specs.Plant.{PlainPlant}
 use Rattle.lhg_plant.specs.State.{PlainState, IsState, IsSafe}
 use Rattle.lhg_plant.specs.Round.{InRound, IsRemovedIn, IsLastRound}
@@ -20,7 +20,7 @@ use Rattle.lhg_iterate.specs.declared.seeking.Sought.TheVariants.{Outside, Unsaf
 use Rattle.lhg_iterate.specs.declared.seeking.SeekStop.{SeekStop}
 use Rattle.lhg_iterate.specs.declared.seeking.SeekStop.TheVariants.{State, Stop}
 use Rattle.lhg_iterate.specs.declared.stops.Stop.TheVariants as stop
-use Rattle.lhg_iterate.specs.SeekWork.{safe_truth, IsUndecided, seek_work}
+use Rattle.lhg_iterate.specs.SeekWork.{IsUndecided, seek_work}
 
 -- ---- answers
 -- a round up to the budget is the first that removes nothing, and the state is still there

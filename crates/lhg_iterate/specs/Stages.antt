@@ -4,12 +4,15 @@ use Rattle.lhg_union.specs.Regions.{plain_region}
 use Rattle.lhg_plant.specs.declared.plants.Plant.{Plant}
 use Rattle.lhg_plant.specs.Round.{IsRemovedIn}
 use Rattle.lhg_plant.specs.Views.{plain_plant}
-use Rattle.lhg_loss.specs.Records.{record_limit}
+use Rattle.lhg_loss.specs.Records.{record_limit, record_row_limit, loss_rows}
 use Rattle.lhg_loss.specs.Iterate.{PlainStage, stage, next_round, spent_state, solution, solution_within}
 use Rattle.lhg_loss.specs.RoundFacts.{IsExactRound}
 use Rattle.lhg_loss.specs.LimitFacts.{IsComputed}
 use Rattle.lhg_loss.specs.StageFacts.{IsStage}
 use Rattle.lhg_loss.specs.Views.{plain_losses, AllHaveVars}
+use Rattle.lhg_quiet.specs.Quiet.{AreQuiet, AreChanges}
+use Rattle.lhg_iterate.specs.Carrying.{IsCarriedTo}
+use Rattle.lhg_iterate.specs.declared.rounds.Passed.{Passed}
 use Rattle.lhg_iterate.specs.declared.rounds.Round.{Round}
 use Rattle.lhg_iterate.specs.declared.stages.Stage.{Stage}
 use Rattle.lhg_iterate.specs.RoundViews.{plain_round, IsOverPlant}
@@ -30,6 +33,9 @@ pub record IsAfter (p : Plant) (budget i : ℕ) (s : Stage) : Type 0 where
   pub vars : IsOverPlant p s.region.pieces.items
   pub losses_vars : AllHaveVars (length p.vars.items) s.losses.items
   pub few : length s.losses.items ≤ record_limit
+  pub rows : s.rows_left + loss_rows (plain_losses s.losses.items) ≡ record_row_limit
+  pub quiet : AreQuiet (plain_plant p) (plain_region s.region.pieces.items) s.quiet.items
+  pub carried : IsCarriedTo p s.region.pieces.items s.carried
 
 -- round i + 1 on the stage after round i
 pub record IsRoundAfter (p : Plant) (i : ℕ) (s : Stage) (r : Round) : Type 0 where
@@ -39,3 +45,9 @@ pub record IsRoundAfter (p : Plant) (i : ℕ) (s : Stage) (r : Round) : Type 0 w
   pub vars : IsOverPlant p r.next.pieces.items
   pub losses_vars : AllHaveVars (length p.vars.items) r.losses.items
   pub few : length s.losses.items + length r.losses.items ≤ record_limit
+
+-- the same, with marks for the locations that it may have changed
+pub record IsPassedAfter (p : Plant) (i : ℕ) (s : Stage) (d : Passed) : Type 0 where
+  pub round : IsRoundAfter p i s d.round
+  pub changes : AreChanges (plain_plant p) (plain_region s.region.pieces.items) (plain_region d.round.next.pieces.items) d.changed.items
+  pub marks : length d.changed.items ≡ length p.locs.items

@@ -1,15 +1,16 @@
 // The rounds of the game, one after the other, until one removes nothing.
 #![tactic(auto)]
 
+mod carried;
 mod causes;
 mod computing;
 pub mod laws;
 mod limits;
 mod near;
+mod passing;
 mod places;
 mod records;
 mod rounds;
-mod safe_lines;
 mod seeking;
 mod solving;
 mod stages;

@@ -16,21 +16,19 @@ pub(crate) fn are_within(first: u32, losses: &[Loss]) -> bool
     requires { length losses.now < 2 ^ 32 }
     ensures { result ≡ not (nat_lt (calculus.record_limit + 1) (first + length losses.now) || nat_lt calculus.record_row_limit (calculus.loss_rows (plain_losses losses.now))) }
 {
-    first as usize + losses.len() <= RECORD_LIMIT + 1 && have_rows_within(losses)
+    first as usize + losses.len() <= RECORD_LIMIT + 1
+        && rows_left(losses, RECORD_ROW_LIMIT).is_some()
 }
 
-/// Whether the records have at most as many rows as they may.
-pub(crate) fn have_rows_within(losses: &[Loss]) -> bool
-    ensures { result ≡ not (nat_lt calculus.record_row_limit (calculus.loss_rows (plain_losses losses.now))) }
+/// How many rows are left of the most that there may be, where the records have no more.
+pub(crate) fn rows_left(losses: &[Loss], most: usize) -> Option<usize>
+    ensures { SomeIff result (calculus.loss_rows (plain_losses losses.now) ≤ most) (most - calculus.loss_rows (plain_losses losses.now)) }
 {
-    let mut left = RECORD_ROW_LIMIT;
+    let mut left = most;
     for loss in losses {
-        match left_after(loss, left) {
-            None => return false,
-            Some(rest) => left = rest,
-        }
+        left = left_after(loss, left)?;
     }
-    true
+    Some(left)
 }
 
 // How many rows are left after those of a record, where it has no more.

@@ -1,21 +1,17 @@
 // Whether one state is kept, and if not, in which round it is lost and why.
 ghost use Rattle.std.specs.Prelude.{◌≡◌, ◌↔◌, ◌+◌, ◌<◌, ◌≤◌, length, vec_len, IsTrue, IfOk, IfErr};
-ghost use Rattle.lhg_num.specs.FracArithmetic.{frac_arithmetic};
-ghost use Rattle.lhg_num.specs.Halting.{IsWideBy};
 ghost use Rattle.lhg_plant.specs.State.{IsSafe, IsState};
 ghost use Rattle.lhg_plant.specs.Views.{plain_plant, plain_state};
-ghost use Rattle.lhg_iterate.specs.SeekWork.{safe_truth};
 ghost use Rattle.lhg_iterate.specs.Seeking.{IsSought, SoughtVars, IsSeekStopped};
 ghost use Rattle.lhg_iterate.specs.Turns.{IsStillIn, IsTurn};
 
-use crate::safe_lines::some_holds;
 use crate::solving::spent;
 use crate::stages::{Stage, after_round, first_stage, next_round};
 use crate::stops::Stop;
 use lhg_loss::laws::law_seek;
 use lhg_loss::{Loss, first_holding};
 use lhg_num::Wide;
-use lhg_plant::{Plant, State, in_invariant};
+use lhg_plant::{Plant, State, in_invariant, is_safe};
 use std::alloc::Global;
 
 /// What is found of a state.
@@ -93,16 +89,6 @@ pub fn seek(alloc: Global, plant: &Plant, state: &State, budget: u32) -> Result<
     seek_safe(alloc, plant, state, budget)
 }
 
-// Whether some safe line holds at the state.
-fn is_safe(plant: &Plant, state: &State) -> Result<bool, Wide>
-    requires there { state.now.loc < vec_len plant.now.locs }
-    requires lengths { length state.now.at ≡ vec_len plant.now.vars }
-    ensures calculus { IsWideBy result (safe_truth frac_arithmetic (plain_plant plant.now) (plain_state state.now)) (λ b. b) }
-    ensures exact { IsState (plain_plant plant.now) (plain_state state.now) → IfOk result (λ b. IsTrue b ↔ IsSafe (plain_plant plant.now) (plain_state state.now)) }
-{
-    some_holds(&plant.locs[state.loc as usize].safe, &state.at)
-}
-
 // What becomes of a safe state.
 fn seek_safe(alloc: Global, plant: &Plant, state: &State, budget: u32) -> Result<Sought, SeekStop>
     requires low { 1 ≤ budget }
@@ -129,7 +115,7 @@ fn next_turn(
     state: &State,
     budget: u32,
     rounds: u32,
-    stage: Stage,
+    mut stage: Stage,
 ) -> Result<Turn, SeekStop>
     requires within { rounds < budget }
     requires lengths { length state.now.at ≡ vec_len plant.now.vars }
@@ -138,12 +124,12 @@ fn next_turn(
     ensures stop { IfErr result (IsSeekStopped (plain_plant plant.now) budget (plain_state state.now)) }
 {
     law_seek();
-    let round = next_round(alloc, plant, budget, rounds, &stage)?;
-    if round.losses.is_empty() {
+    let passed = next_round(alloc, plant, budget, rounds, &mut stage)?;
+    if passed.round.losses.is_empty() {
         return Ok(Turn::Decided(Sought::Kept { rounds: rounds + 1 }));
     }
-    let first = first_holding(&round.losses, state)?;
-    let next = after_round(plant, budget, rounds, stage, round)?;
+    let first = first_holding(&passed.round.losses, state)?;
+    let next = after_round(alloc, plant, budget, rounds, stage, passed)?;
     match first {
         Some(number) => Ok(Turn::Decided(Sought::Lost {
             number,

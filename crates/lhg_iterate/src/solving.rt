@@ -1,23 +1,32 @@
 // The iteration: rounds one after the other, until one removes nothing or the budget is spent.
 ghost use Rattle.std.specs.Prelude.{◌≡◌, ◌<◌, ◌≤◌, length, IfOk, IfErr};
 ghost use Rattle.lhg_math.specs.Tests.{AllOf};
+ghost use Rattle.lhg_num.specs.Halting.{IsHaltedBy};
 ghost use Rattle.lhg_union.specs.PolyLists.{AllVars};
+ghost use Rattle.lhg_union.specs.Regions.{plain_region};
+ghost use Rattle.lhg_plant.specs.BackCalculus as backs;
+ghost use Rattle.lhg_plant.specs.Laws.{HasExactGuards};
 ghost use Rattle.lhg_plant.specs.Views.{plain_plant};
+ghost use Rattle.lhg_jump.specs.PlantLists.{IsRegionOf, AreGuardsOf};
 ghost use Rattle.lhg_loss.specs.Iterate as calculus;
 ghost use Rattle.lhg_loss.specs.Views.{AllHaveVars};
+ghost use Rattle.lhg_iterate.specs.Carrying.{IsCarriedTo, IsRenewedFor};
 ghost use Rattle.lhg_iterate.specs.Outcomes.{plain_solved, IsSolvedBy, IsStoppedBy};
-ghost use Rattle.lhg_iterate.specs.Stages.{IsAfter, IsRoundAfter};
+ghost use Rattle.lhg_iterate.specs.Stages.{IsAfter, IsPassedAfter};
 ghost use Rattle.lhg_iterate.specs.Stops.{IsSpentStop};
 
-use crate::rounds::Round;
+use crate::carried::Carried;
+use crate::rounds::Passed;
 use crate::stages::{Stage, after_round, first_stage, next_round};
 use crate::stops::{Stop, halted};
-use lhg_jump::guards;
+use lhg_jump::guards_with;
 use lhg_loss::Loss;
 use lhg_loss::laws::{law_stages, law_work};
-use lhg_num::Frac;
+use lhg_num::{Frac, Halt};
 use lhg_plant::{Plant, State};
 use lhg_poly::Poly;
+use lhg_quiet::laws::law_changes;
+use lhg_quiet::renew_away;
 use lhg_sample::sample;
 use lhg_union::Region;
 use std::alloc::Global;
@@ -48,11 +57,11 @@ pub fn solve(alloc: Global, plant: &Plant, budget: u32) -> Result<Solved, Stop>
 {
     let mut stage = first_stage(alloc, plant, budget)?;
     for rounds in 0..budget {
-        let round = next_round(alloc, plant, budget, rounds, &stage)?;
-        if round.losses.is_empty() {
-            return settled(alloc, plant, budget, rounds, stage, round);
+        let passed = next_round(alloc, plant, budget, rounds, &mut stage)?;
+        if passed.round.losses.is_empty() {
+            return settled(alloc, plant, budget, rounds, stage, passed);
         }
-        stage = after_round(plant, budget, rounds, stage, round)?;
+        stage = after_round(alloc, plant, budget, rounds, stage, passed)?;
     }
     Err(spent(alloc, plant, budget, &stage))
 }
@@ -64,12 +73,13 @@ fn settled(
     budget: u32,
     rounds: u32,
     stage: Stage,
-    round: Round,
+    passed: Passed,
 ) -> Result<Solved, Stop>
     requires within { rounds < budget }
     requires stage { IsAfter plant.now budget rounds stage }
-    requires round { IsRoundAfter plant.now rounds stage round }
-    requires none { length round.losses.items ≡ 0 }
+    requires passed { IsPassedAfter plant.now rounds stage passed }
+    requires renewed { IsRenewedFor plant.now stage.region.pieces.items stage.carried }
+    requires none { length passed.round.losses.items ≡ 0 }
     ensures solution { IfOk result (λ s. calculus.solution (plain_plant plant.now) budget ≡ plain_solved s) }
     ensures solved { IfOk result (IsSolvedBy (plain_plant plant.now) budget) }
     ensures stop { IfErr result (IsStoppedBy (plain_plant plant.now) budget) }
@@ -81,15 +91,50 @@ fn settled(
 {
     law_stages();
     law_work();
-    match guards(alloc, plant, &round.next) {
+    law_changes();
+    let mut carried = stage.carried;
+    carried.changed = passed.changed;
+    let round = passed.round;
+    let region = round.next;
+    match guards_of(alloc, plant, &region, &mut carried) {
         Ok(guards) => Ok(Solved {
-            region: round.next,
+            region,
             guards,
             rounds: rounds + 1,
             losses: stage.losses,
         }),
         Err(halt) => Err(halted(halt, rounds + 1)),
     }
+}
+
+// The guards of the last region.
+fn guards_of(
+    alloc: Global,
+    plant: &Plant,
+    region: &Region<Frac>,
+    carried: &mut Carried,
+) -> Result<Vec<Vec<Poly<Frac>>>, Halt>
+    requires region { IsRegionOf plant.now region.now.pieces.items }
+    requires carried { IsCarriedTo plant.now region.now.pieces.items carried.old }
+    ensures calculus { IsHaltedBy result (backs.guards (plain_plant plant.now) (plain_region region.now.pieces.items)) (λ v. plain_region v.items) }
+    ensures lists { IfOk result (λ v. AreGuardsOf plant.now v.items) }
+    ensures points { IfOk result (λ v. HasExactGuards (plain_plant plant.now) (record { region = plain_region region.now.pieces.items; guards = plain_region v.items })) }
+{
+    renew_away(
+        alloc,
+        plant,
+        &carried.invs,
+        &region.pieces,
+        &carried.changed,
+        &mut carried.outs.away.pieces,
+    )?;
+    guards_with(
+        alloc,
+        plant,
+        &carried.invs,
+        &carried.outs.away.pieces,
+        region,
+    )
 }
 
 /// The budget is spent: a state that its last round removes, the sample of the first record.

@@ -5,7 +5,8 @@ use Rattle.lhg_math.specs.Tests.{AllOf}
 use Rattle.lhg_row.specs.System.{PlainSystem}
 use Rattle.lhg_plant.specs.declared.plants.Plant.{Plant}
 use Rattle.lhg_plant.specs.Inside.{AllInside}
-use Rattle.lhg_plant.specs.Invariants.{pieces_at}
+use Rattle.lhg_plant.specs.Invariants.{pieces_at, invariants}
+use Rattle.lhg_plant.specs.OutCalculus.{away}
 use Rattle.lhg_plant.specs.Views.{plain_plant}
 use Rattle.lhg_union.specs.PolyLists.{AllVars}
 use Rattle.lhg_union.specs.Regions.{plain_region}
@@ -28,3 +29,13 @@ pub record IsRegionOf (plant : Plant) (lists : List (Vec PlainSystem)) : Type 0 
 pub record AreGuardsOf (plant : Plant) (lists : List (Vec PlainSystem)) : Type 0 where
   pub many : length lists ≡ length plant.switches.items
   pub vars : AreOver plant lists
+
+-- the invariants of the plant
+pub record AreInvariantsOf (plant : Plant) (lists : List (Vec PlainSystem)) : Type 0 where
+  pub has_lists : AreListsOf plant lists
+  pub same : plain_region lists ≡ (invariants (plain_plant plant)).value
+
+-- the states outside the region
+pub record AreAwayOf (plant : Plant) (region lists : List (Vec PlainSystem)) : Type 0 where
+  pub has_lists : AreListsOf plant lists
+  pub same : plain_region lists ≡ (away (length plant.vars.items) (invariants (plain_plant plant)).value (plain_region region)).value

@@ -14,7 +14,7 @@ ghost use Rattle.lhg_plant.specs.SwitchFacts.{IsOutside, AreBacks};
 ghost use Rattle.lhg_plant.specs.Views.{plain_plant, plain_switch};
 ghost use Rattle.lhg_union.specs.PolyLists.{lines_of, AllVars};
 ghost use Rattle.lhg_union.specs.Regions.{plain_region};
-ghost use Rattle.lhg_jump.specs.PlantLists.{AreListsOf, IsRegionOf, AreGuardsOf};
+ghost use Rattle.lhg_jump.specs.PlantLists.{AreListsOf, IsRegionOf, AreGuardsOf, AreInvariantsOf, AreAwayOf};
 
 use crate::invariant_lists::invariants;
 use crate::outs::away_of;
@@ -66,12 +66,30 @@ pub fn guards(
     ensures lists { IfOk result (λ v. AreGuardsOf plant.now v.items) }
     ensures points { IfOk result (λ v. HasExactGuards (plain_plant plant.now) (record { region = plain_region region.now.pieces.items; guards = plain_region v.items })) }
 {
-    tell_lists(&region.pieces);
     let invs = invariants(alloc, plant)?;
     let away = away_of(alloc, plant, &invs, &region.pieces)?;
+    guards_with(alloc, plant, &invs, &away, region)
+}
+
+/// The same, where the invariants and the states outside the region are there.
+pub fn guards_with(
+    alloc: Global,
+    plant: &Plant,
+    invs: &[Vec<Poly<Frac>>],
+    away: &[Vec<Poly<Frac>>],
+    region: &Region<Frac>,
+) -> Result<Vec<Vec<Poly<Frac>>>, Halt>
+    requires invs { AreInvariantsOf plant.now invs.now }
+    requires away { AreAwayOf plant.now region.now.pieces.items away.now }
+    requires region { IsRegionOf plant.now region.now.pieces.items }
+    ensures calculus { IsHaltedBy result (calculus.guards (plain_plant plant.now) (plain_region region.now.pieces.items)) (λ v. plain_region v.items) }
+    ensures lists { IfOk result (λ v. AreGuardsOf plant.now v.items) }
+    ensures points { IfOk result (λ v. HasExactGuards (plain_plant plant.now) (record { region = plain_region region.now.pieces.items; guards = plain_region v.items })) }
+{
+    tell_lists(&region.pieces);
     let mut guards = Vec::with_capacity(alloc, plant.switches.len())?;
     for switch in &plant.switches {
-        let guard = guard_by(alloc, plant, switch, &invs, &region.pieces, &away)?;
+        let guard = guard_by(alloc, plant, switch, invs, &region.pieces, away)?;
         guards.push(guard)?;
     }
     Ok(guards)
@@ -97,8 +115,9 @@ fn guard_by(
     meet_lists(alloc, &kept, &region[switch.from as usize])
 }
 
-// The states that the switch keeps in the region, where it is controllable.
-fn back_by(
+/// The states that the switch keeps in the region, where it is controllable. The lists are those of all locations: the invariants,
+/// the region, and the states outside it. It halts as `back` does.
+pub fn back_by(
     alloc: Global,
     plant: &Plant,
     switch: &Switch,

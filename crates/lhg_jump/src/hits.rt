@@ -40,7 +40,9 @@ pub(crate) struct Kept {
 
 /// The hits in location l, by each uncontrollable switch from it, in order. The lists are those of all locations: the
 /// invariants, the states outside the region, and the region.
-pub(crate) fn hits_at(
+/// It halts for `Wide` only where fractions refuse an operation of the calculus of this call,
+/// for `Rows` and `Pieces` only where it has a list past `ROW_LIMIT`, `PIECE_LIMIT` or `LIST_ROW_LIMIT`, and for `Memory`.
+pub fn hits_at(
     alloc: Global,
     plant: &Plant,
     invs: &[Vec<Poly<Frac>>],

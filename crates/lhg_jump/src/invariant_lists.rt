@@ -30,8 +30,8 @@ pub fn invariants(alloc: Global, plant: &Plant) -> Result<Vec<Vec<Poly<Frac>>>, 
     Ok(pieces)
 }
 
-/// That of one location over this many variables.
-pub(crate) fn invariant_list(
+/// That of one location over this many variables. It halts as `invariants` does.
+pub fn invariant_list(
     alloc: Global,
     vars: usize,
     location: &Location,

@@ -11,9 +11,9 @@ mod safe;
 #[cfg(test)]
 mod tests;
 
-pub use backs::{back, guards};
-pub use hits::Hit;
-pub use invariant_lists::invariants;
-pub use outs::{Outs, out};
+pub use backs::{back, back_by, guards, guards_with};
+pub use hits::{Hit, hits_at};
+pub use invariant_lists::{invariant_list, invariants};
+pub use outs::{Outs, away_of, out, out_with};
 pub use predecessors::pre;
-pub use safe::safe_region;
+pub use safe::{safe_pieces, safe_region};

@@ -10,7 +10,7 @@ ghost use Rattle.lhg_plant.specs.Views.{plain_plant};
 ghost use Rattle.lhg_union.specs.Regions.{plain_region};
 ghost use Rattle.lhg_jump.specs.HitViews.{plain_hits, AreHitsOf};
 ghost use Rattle.lhg_jump.specs.OutViews.{plain_outs};
-ghost use Rattle.lhg_jump.specs.PlantLists.{AreListsOf};
+ghost use Rattle.lhg_jump.specs.PlantLists.{AreListsOf, AreInvariantsOf};
 
 use crate::hits::{Hit, hits_at};
 use crate::invariant_lists::invariants;
@@ -37,18 +37,37 @@ pub fn out(alloc: Global, plant: &Plant, region: &Region<Frac>) -> Result<Outs, 
     ensures hits { IfOk result (λ o. AreHitsOf plant.now o.hits.items) }
     ensures points { IfOk result (λ o. IsOutOf (plain_plant plant.now) (InRegion (plain_plant plant.now) (plain_region region.now.pieces.items)) (plain_outs o)) }
 {
-    tell_lists(&region.pieces);
     let invs = invariants(alloc, plant)?;
-    let away = away_of(alloc, plant, &invs, &region.pieces)?;
-    let hits = all_hits(alloc, plant, &invs, &away, &region.pieces)?;
+    out_with(alloc, plant, &invs, region)
+}
+
+/// The same, where the invariants are there.
+pub fn out_with(
+    alloc: Global,
+    plant: &Plant,
+    invs: &[Vec<Poly<Frac>>],
+    region: &Region<Frac>,
+) -> Result<Outs, Halt>
+    requires invs { AreInvariantsOf plant.now invs.now }
+    requires region { AreListsOf plant.now region.now.pieces.items }
+    ensures calculus { IsHaltedBy result (calculus.out (plain_plant plant.now) (plain_region region.now.pieces.items)) plain_outs }
+    ensures away { IfOk result (λ o. AreListsOf plant.now o.away.pieces.items) }
+    ensures hits { IfOk result (λ o. AreHitsOf plant.now o.hits.items) }
+    ensures points { IfOk result (λ o. IsOutOf (plain_plant plant.now) (InRegion (plain_plant plant.now) (plain_region region.now.pieces.items)) (plain_outs o)) }
+{
+    tell_lists(&region.pieces);
+    let away = away_of(alloc, plant, invs, &region.pieces)?;
+    let hits = all_hits(alloc, plant, invs, &away, &region.pieces)?;
     Ok(Outs {
         away: Region { pieces: away },
         hits,
     })
 }
 
-/// The states outside a region, location by location.
-pub(crate) fn away_of(
+/// The states outside a region, location by location: each invariant without the region's pieces there.
+/// It halts for `Wide` only where fractions refuse an operation of the calculus of this call,
+/// for `Rows` and `Pieces` only where it has a list past `ROW_LIMIT`, `PIECE_LIMIT` or `LIST_ROW_LIMIT`, and for `Memory`.
+pub fn away_of(
     alloc: Global,
     plant: &Plant,
     invs: &[Vec<Poly<Frac>>],

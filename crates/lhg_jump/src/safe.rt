@@ -40,8 +40,8 @@ pub fn safe_region(alloc: Global, plant: &Plant) -> Result<Region<Frac>, Halt>
     Ok(Region { pieces })
 }
 
-// The pieces of one location over this many variables.
-fn safe_pieces(alloc: Global, vars: usize, location: &Location) -> Result<Vec<Poly<Frac>>, Halt>
+/// Those of one location over this many variables. It halts as `safe_region` does.
+pub fn safe_pieces(alloc: Global, vars: usize, location: &Location) -> Result<Vec<Poly<Frac>>, Halt>
     requires { IsLocation vars (plain_location location.now) }
     ensures calculus { IsHaltedByRows result (calculus.safe_list vars (plain_location location.now)) (λ v. lines_of v.items) }
     ensures vars { IfOk result (λ v. AllVars vars v.items) }

@@ -3,16 +3,20 @@ use Rattle.std.specs.Global.{Vec}
 use Rattle.lhg_math.specs.Tests.{AllOf}
 use Rattle.lhg_num.specs.FracArithmetic.{frac_arithmetic}
 use Rattle.lhg_num.specs.Marked.{valued}
-use Rattle.lhg_num.specs.MarkedLaws.{IsPart}
+use Rattle.lhg_num.specs.MarkedLaws.{IsPart, part_part}
 use Rattle.lhg_num.proofs.Halted.{part_halts}
 use Rattle.lhg_row.specs.Piece.{PlainPiece}
 use Rattle.lhg_row.specs.System.{PlainSystem}
+use Rattle.lhg_plant.specs.Invariants.{invariants}
 use Rattle.lhg_plant.specs.OutCalculus.{PlainOuts, out}
 use Rattle.lhg_plant.specs.Views.{plain_plant, plain_state}
 use Rattle.lhg_union.specs.PolyLists.{ArePolys}
+use Rattle.lhg_union.specs.Regions.{plain_region}
 use Rattle.lhg_union.proofs.Halts.{all_on_rows}
 use Rattle.lhg_jump.specs.OutViews.{plain_outs}
+use Rattle.lhg_jump.specs.PlantLists.{AreInvariantsOf}
 use Rattle.lhg_jump.proofs.Answering.{switch-there}
+use Rattle.lhg_jump.proofs.CallCode.{out-first}
 use Rattle.lhg_ctl.specs.Views.{plain_controller}
 use Rattle.lhg_check.specs.declared.firsts.First.{First}
 use Rattle.lhg_check.specs.Check.{unsafe, bad_guard, escapes, first_piece, unsafe_pieces, broken_guards, lost_pieces, sample_at, from_of, check}
@@ -74,12 +78,29 @@ returns-in-Some-clause-exact c =
     let state = c.in_ok-state.ensures ∙ ap (λ k. (sample_at k f.0 f.1).value) vars in
     unsafe_exact a ct p.proper given f h (plain_state c.in_ok-state.state) state
 
+pub returns-in_err-invs-clause-calculus : goal.returns-in_err-invs-clause-calculus
+returns-in_err-invs-clause-calculus c =
+    let p = c.args.plant.now in
+    let a = plain_plant p in
+    let ct = plain_controller c.args.controller.now in
+    let work : IsPart (out a ct.region) (invariants a) = out-first a ct.region (invariants a).value refl in
+    all_on_rows c.from_residual-in_err-invs.result c.in_err-invs.field-0.0 (check a ct) plain_verdict (invariants a) (λ v. plain_region v.items) c.from_residual-in_err-invs.ensures.1 c.in_err-invs.ensures.calculus
+    (part_part (check a ct) (out a ct.region) (invariants a) (check_work a ct).outs work)
+
+pub out_with-requires-clause-invs : goal.out_with-requires-clause-invs
+out_with-requires-clause-invs c =
+    subst (AreInvariantsOf c.args.plant.now) (sym c.deref-3.ensures.value) (record { has_lists = c.in_ok-invs.ensures.lists; same = c.in_ok-invs.ensures.calculus })
+
 pub returns-in_err-outs-clause-calculus : goal.returns-in_err-outs-clause-calculus
 returns-in_err-outs-clause-calculus c =
     let p = c.args.plant.now in
     let a = plain_plant p in
     let ct = plain_controller c.args.controller.now in
     part_halts c.from_residual-in_err-outs.result c.in_err-outs.field-0.0 (check a ct) plain_verdict (out a ct.region) plain_outs c.from_residual-in_err-outs.ensures.1 c.in_err-outs.ensures.calculus (check_work a ct).outs
+
+pub first_broken-requires-clause-invs : goal.first_broken-requires-clause-invs
+first_broken-requires-clause-invs c =
+    subst (AreInvariantsOf c.args.plant.now) (sym c.deref-4.ensures.value) (record { has_lists = c.in_ok-invs.ensures.lists; same = c.in_ok-invs.ensures.calculus })
 
 pub first_broken-requires-clause-away : goal.first_broken-requires-clause-away
 first_broken-requires-clause-away c =

@@ -8,9 +8,9 @@ pub returns-in_err-stage-clause-stop : goal.returns-in_err-stage-clause-stop
 returns-in_err-stage-clause-stop c =
     refused_stage (plain_plant c.args.plant.now) c.args.budget 0 c.from_residual.result c.in_err-stage.field-0.0 c.from_residual.ensures.1 c.in_err-stage.ensures.stop
 
-pub returns-in_err-round-clause-stop : goal.returns-in_err-round-clause-stop
-returns-in_err-round-clause-stop c =
-    refused_stage (plain_plant c.args.plant.now) c.args.budget (suc c.loop-rounds.rounds) c.from_residual-in_err-round.result c.in_err-round.field-0.0 c.from_residual-in_err-round.ensures.1 c.in_err-round.ensures.stop
+pub returns-in_err-passed-clause-stop : goal.returns-in_err-passed-clause-stop
+returns-in_err-passed-clause-stop c =
+    refused_stage (plain_plant c.args.plant.now) c.args.budget (suc c.loop-rounds.rounds) c.from_residual-in_err-passed.result c.in_err-passed.field-0.0 c.from_residual-in_err-passed.ensures.1 c.in_err-passed.ensures.stop
 
 pub returns-in_err-stage-2-clause-stop : goal.returns-in_err-stage-2-clause-stop
 returns-in_err-stage-2-clause-stop c =
@@ -23,3 +23,6 @@ spent-requires-clause-stage c =
 
 pub returns-clause-stop : goal.returns-clause-stop
 returns-clause-stop c = spent_stops (plain_plant c.args.plant.now) c.args.budget c.spent.result (omega arith) c.spent.ensures
+
+pub settled-requires-clause-passed : goal.settled-requires-clause-passed
+settled-requires-clause-passed c = c.in_ok-passed.ensures.ok

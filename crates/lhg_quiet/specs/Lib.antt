@@ -1,0 +1,4 @@
+pub mod Masked
+pub mod Outside
+pub mod Quiet
+pub mod QuietLaws
