@@ -1,0 +1,10 @@
+pub mod AwayParts
+pub mod Candidates
+pub mod CutStates
+pub mod Inside
+pub mod Leaving
+pub mod PlaceSteps
+pub mod RimPoints
+pub mod RimStates
+pub mod RimSteps
+pub mod Wholes
