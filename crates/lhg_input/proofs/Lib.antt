@@ -1,3 +1,4 @@
+pub mod InitWholes
 pub mod PartRefusals
 pub mod Parts
 pub mod Readings

@@ -1,4 +1,4 @@
--- Plants, controllers, logs and states are parts of an input.
+-- Plants, controllers, logs, states and first states are parts of an input.
 use Rattle.std.proofs.Common.{◌≡◌, ℕ, List, [], ◌∷◌, ◌++◌, sym, ap, ◌∙◌}
 use Rattle.lhg_lex.specs.FirstBad.{CanStand}
 use Rattle.lhg_lex.specs.LineTokens.{Spot}
@@ -25,6 +25,8 @@ use Rattle.lhg_ctl.proofs.ControllerLawProofs.{controller_reading, controller_en
 use Rattle.lhg_ctl.proofs.ControllerMachine.{controllers}
 use Rattle.lhg_ctl.proofs.LogLawProofs.{log_reading, log_end}
 use Rattle.lhg_ctl.proofs.LogStart.{logs}
+use Rattle.lhg_forward.specs.InitText.{IsInit, IsInitText}
+use Rattle.lhg_forward.proofs.InitReading.{inits, init_reading, init_end}
 use Rattle.lhg_input.specs.Then.{IsSome}
 use Rattle.lhg_input.proofs.Parts.{IsPart, IsLaterPart}
 
@@ -88,3 +90,12 @@ state_part a = later_part (IsStateText a) (record { end = blank_end (IsStateText
 -- each plant has a state
 pub state_follows : (lines : List (List ℕ)) (a : PlainPlant) → IsPlantText lines a → CanStand (IsSome (IsStateLines a)) []
 state_follows lines a h = some_text (IsStateText a) (some_state a (proper_of lines a h))
+
+-- ---- first states
+
+pub init_part : (a : PlainPlant) → IsLaterPart (IsInitText a)
+init_part a = later_part (IsInit a) (record { end = init_end a; one_value = (init_reading a).one_value })
+
+-- each plant has first states
+pub init_follows : (lines : List (List ℕ)) (a : PlainPlant) → IsPlantText lines a → CanStand (IsSome (IsInitText a)) []
+init_follows lines a h = some_text (IsInit a) (inits a).can_begin

@@ -40,7 +40,7 @@ log_follows_both : (lines : List (List ℕ)) (both : PlainPlant × PlainDraft) �
 log_follows_both lines both h = log_follows h.front both.0 h.first
 
 -- each part has one value or one first bad line
-one_reading : {V : Type 0} (Is : List (List ℕ) → V → Type 0) → IsPart Is → HasOneReading Is (IsSome Is)
+pub one_reading : {V : Type 0} (Is : List (List ℕ) → V → Type 0) → IsPart Is → HasOneReading Is (IsSome Is)
 one_reading Is a = record { one_value = a.one_value; no_bad_line = none_bad (IsSome Is); one_bad_line = one_bad (IsSome Is) }
 
 pub controllers_one : HasOneReading IsControllerInput (IsSome IsControllerInput)
@@ -53,14 +53,14 @@ pub states_one : HasOneReading IsStateInput (IsSome IsStateInput)
 states_one = one_reading IsStateInput state_input
 
 -- what is refused of tokens with some value is refused of lines with some value
-cause_of : {V : Type 0} (Tokens : List (List Spot) → V → Type 0) (s : Reading) (stop : ReadStop) → HasCause (IsTextBy (λ tokens. (v : V) × Tokens tokens v)) s stop → HasCause (IsSome (λ lines v. IsTextBy (λ tokens. Tokens tokens v) lines)) s stop
+pub cause_of : {V : Type 0} (Tokens : List (List Spot) → V → Type 0) (s : Reading) (stop : ReadStop) → HasCause (IsTextBy (λ tokens. (v : V) × Tokens tokens v)) s stop → HasCause (IsSome (λ lines v. IsTextBy (λ tokens. Tokens tokens v) lines)) s stop
 cause_of {V = V} Tokens = same_cause (IsTextBy (λ tokens. (v : V) × Tokens tokens v)) (IsSome (λ lines v. IsTextBy (λ tokens. Tokens tokens v) lines)) (some_lines Tokens) (some_tokens Tokens)
 
 -- ---- the plant
 
 module _ (bytes : List ℕ) (first : Reading) (begins : first ≡ start bytes) where
   -- a plant that is refused, in the form of the other parts
-  plant_fault : (stop : ReadStop) → HasCause IsSomePlantText first stop → HasCause (IsSome IsPlantText) (start bytes) stop
+  pub plant_fault : (stop : ReadStop) → HasCause IsSomePlantText first stop → HasCause (IsSome IsPlantText) (start bytes) stop
   plant_fault stop h = cause_of IsPlant (start bytes) stop (subst (λ s. HasCause IsSomePlantText s stop) begins h)
 
   pub plant_refused : (stop : ReadStop) → HasCause IsSomePlantText first stop → HasBadLine (IsSome IsPlantText) bytes stop
@@ -82,7 +82,7 @@ module _ (bytes : List ℕ) (first : Reading) (begins : first ≡ start bytes) w
   -- ---- behind the plant
 
   module _ (a : PlainPlant) (s : Reading) (r : ReadsText (λ tokens. IsPlant tokens a) first s) where
-    plant_read : Stands IsPlantText bytes s a
+    pub plant_read : Stands IsPlantText bytes s a
     plant_read = first_read IsPlant bytes s a (subst (λ t. ReadsText (λ tokens. IsPlant tokens a) t s) begins r)
 
     pub plant_ends : IsAtEnd s → IsPlantText (lines_of bytes) a

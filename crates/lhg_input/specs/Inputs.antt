@@ -1,5 +1,6 @@
 -- Which lines are the whole input of a command, and what do they say?
 use Rattle.std.specs.Prelude.{ℕ, List}
+use Rattle.lhg_row.specs.Piece.{PlainPiece}
 use Rattle.lhg_plant.specs.Plant.{PlainPlant}
 use Rattle.lhg_plant.specs.State.{PlainState}
 use Rattle.lhg_read.specs.PlantText.{IsPlantText}
@@ -7,6 +8,7 @@ use Rattle.lhg_read.specs.StateText.{IsStateLines}
 use Rattle.lhg_ctl.specs.ControllerGrammar.{IsControllerText}
 use Rattle.lhg_ctl.specs.Draft.{PlainDraft}
 use Rattle.lhg_ctl.specs.LogText.{PlainLog, IsLogText}
+use Rattle.lhg_forward.specs.InitText.{IsInitText}
 use Rattle.lhg_input.specs.Then.{IsThen}
 
 -- the text of a plant, then that of a controller of it
@@ -20,3 +22,7 @@ IsLogInput lines input = IsThen IsControllerInput (λ both. IsLogText both.0) li
 -- the text of a plant, then that of a state of it
 abbrev pub IsStateInput : List (List ℕ) → PlainPlant × PlainState → Type 0
 IsStateInput lines input = IsThen IsPlantText IsStateLines lines input
+
+-- the text of a plant, then that of its first states
+abbrev pub IsInitInput : List (List ℕ) → PlainPlant × List (ℕ × PlainPiece) → Type 0
+IsInitInput lines input = IsThen IsPlantText IsInitText lines input

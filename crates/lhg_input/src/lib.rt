@@ -2,6 +2,7 @@
 #![tactic(auto)]
 
 mod controllers;
+mod inits;
 pub mod laws;
 mod logs;
 mod plants;
@@ -10,6 +11,7 @@ mod states;
 mod tests;
 
 pub use controllers::read_controller_input;
+pub use inits::{InitInput, read_init_input};
 pub use logs::{LogInput, read_log_input};
 pub use plants::read_plant_input;
 pub use states::read_state_input;

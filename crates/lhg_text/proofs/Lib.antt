@@ -1,4 +1,5 @@
 pub mod EscapeParts
+pub mod ForwardReading
 pub mod LineValues
 pub mod LinesOfReport
 pub mod OneReading

@@ -44,7 +44,7 @@ word_number : (w : List ℕ) (n : ℕ) → is_word w ≡ true → n ≤ limit �
 word_number w n h k = items_say (w ∷ []) (word w ∷ []) (decimal n) (number (whole (pos n)) ∷ []) (word_item w h, tt) (number_says n k)
 
 -- a word and the number 1
-word_one : (w : List ℕ) → is_word w ≡ true → Says (spaced (w ∷ codes "1" ∷ [])) (word w ∷ number (whole (pos 1)) ∷ [])
+pub word_one : (w : List ℕ) → is_word w ≡ true → Says (spaced (w ∷ codes "1" ∷ [])) (word w ∷ number (whole (pos 1)) ∷ [])
 word_one w h = says_as (ap (λ d. spaced (w ∷ d ∷ [])) (decimal_digit 1 (lit≤ tt))) (word_number w 1 h (lit≤ tt))
 
 -- the values of the lines of a controller
@@ -67,10 +67,10 @@ module _ (a : PlainPlant) (proper : IsProper a) where
   controller_head : IsLineOf a (codes "controller 1") other
   controller_head = record { tokens = word (codes "controller") ∷ number (whole (pos 1)) ∷ []; says = word_one (codes "controller") refl; value_is = refl }
 
-  end_line : IsLineOf a (codes "end") other
+  pub end_line : IsLineOf a (codes "end") other
   end_line = record { tokens = word (codes "end") ∷ []; says = word_says (codes "end") refl; value_is = refl }
 
-  rounds_line : (n : ℕ) → n ≤ limit → IsLineOf a (spaced (codes "rounds" ∷ decimal n ∷ [])) (rounds n)
+  pub rounds_line : (n : ℕ) → n ≤ limit → IsLineOf a (spaced (codes "rounds" ∷ decimal n ∷ [])) (rounds n)
   rounds_line n h = record { tokens = word (codes "rounds") ∷ number (whole (pos n)) ∷ []; says = word_number (codes "rounds") n refl h; value_is = ap (λ k. rounds k) (natural_back n) }
 
   -- ---- pieces and guards
@@ -101,7 +101,7 @@ module _ (a : PlainPlant) (proper : IsProper a) where
         value_is = ap (λ o. guard (unwrap_or o 0, rows_back a.vars (tokens_of_rows a.vars g.1))) back ∙ ap (λ rs. guard (g.0, rs)) rows;
       }
 
-  pieces_are : (ps : List (ℕ × PlainPiece)) → AllOf (IsPlacedOf (length a.vars) (length a.locs)) ps → AreLinesOf a (map (piece_line a) ps) (map (λ p. piece p) ps)
+  pub pieces_are : (ps : List (ℕ × PlainPiece)) → AllOf (IsPlacedOf (length a.vars) (length a.locs)) ps → AreLinesOf a (map (piece_line a) ps) (map (λ p. piece p) ps)
   pieces_are [] h = tt
   pieces_are (p ∷ ps) h = (piece_is p h.0, pieces_are ps h.1)
 

@@ -109,7 +109,7 @@ module _ (n : ℕ) (d : PlainDraft) (losses : List PlainLoss) where
 
 -- ---- lines
 
-lines_inner : (a : PlainPlant) (lines : List (List ℕ)) (values : List ReportLine) → AreLinesOf a lines values → AllOf IsInner lines
+pub lines_inner : (a : PlainPlant) (lines : List (List ℕ)) (values : List ReportLine) → AreLinesOf a lines values → AllOf IsInner lines
 lines_inner a [] [] h = tt
 lines_inner a [] (v ∷ values) h = absurd h
 lines_inner a (l ∷ lines) [] h = absurd h

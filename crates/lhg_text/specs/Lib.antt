@@ -1,4 +1,5 @@
 pub mod EscapeText
+pub mod ForwardText
 pub mod PlantText
 pub mod ReportConditions
 pub mod ReportLaws

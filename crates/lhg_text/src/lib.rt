@@ -1,9 +1,10 @@
-//! Plants, reports, traces and explanations as texts.
+//! Plants, reports, traces, explanations and forward sets as texts.
 #![tactic(auto)]
 
 #[cfg(test)]
 mod escape_tests;
 mod escapes;
+mod forwards;
 pub mod laws;
 mod losses;
 mod moves;
@@ -19,6 +20,7 @@ mod traces;
 mod words;
 
 pub use escapes::print_escape;
+pub use forwards::print_forward;
 pub use plants::print_plant;
 pub use reports::print_report;
 pub use traces::print_trace;

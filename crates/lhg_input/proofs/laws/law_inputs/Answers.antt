@@ -1,3 +1,4 @@
+use Rattle.lhg_input.proofs.InitWholes.{inits_one}
 use Rattle.lhg_input.proofs.Wholes.{controllers_one, logs_one, states_one}
 use Rattle.lhg_input.proofs.laws.law_inputs.Goals as goal
 
@@ -9,3 +10,6 @@ returns-clause-logs c = logs_one
 
 pub returns-clause-states : goal.returns-clause-states
 returns-clause-states c = states_one
+
+pub returns-clause-inits : goal.returns-clause-inits
+returns-clause-inits c = inits_one

@@ -1,0 +1,13 @@
+pub mod After
+pub mod AfterFacts
+pub mod Growth
+pub mod GrowthFacts
+pub mod InitStates
+pub mod InitText
+pub mod InitViews
+pub mod Laws
+pub mod Level
+pub mod Outcomes
+pub mod StageFacts
+pub mod Views
+pub mod WorkLaws
