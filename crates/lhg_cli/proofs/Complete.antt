@@ -13,25 +13,30 @@ use Rattle.lhg_loss.specs.StageFacts.{RemovesSome}
 use Rattle.lhg_loss.proofs.LastRounds.{last_law}
 use Rattle.lhg_loss.proofs.Seeking.{outcome_laws}
 use Rattle.lhg_gen.specs.GeneratedPlant.{generated_plant}
-use Rattle.lhg_input.specs.Inputs.{IsControllerInput, IsLogInput, IsStateInput}
+use Rattle.lhg_input.specs.Inputs.{IsControllerInput, IsInitInput, IsLogInput}
+use Rattle.lhg_input.proofs.InitWholes.{inits_one}
 use Rattle.lhg_input.proofs.Wholes.{controllers_one, logs_one}
-use Rattle.lhg_cli.specs.Answer.{IsAnswer, IsAnswerTo, IsTextFor, IsSolvable, IsUsedUp}
+use Rattle.lhg_cli.specs.Answer.{IsAnswer, AnswersBytes, IsTextFor, IsSolvable, IsUsedUp}
 use Rattle.lhg_cli.specs.InputAnswer.{IsInput}
+use Rattle.lhg_cli.specs.LazyAnswer.{IsLazied, IsLazySolvable}
 use Rattle.lhg_cli.specs.Migration.{IsMigrated}
-use Rattle.lhg_cli.specs.PlantAnswer.{IsOutcome, IsReport, IsStopped, IsSynthesis, IsSynthAnswer}
+use Rattle.lhg_cli.specs.PlantAnswer.{IsOutcome, IsReport, IsStopped, IsSynthesis}
+use Rattle.lhg_cli.specs.ReachAnswer.{IsReached, IsExplorable, IsEndless}
 use Rattle.lhg_cli.specs.RunAnswer.{IsRan, IsRunnable, IsUnrunnable, IsSureRun}
-use Rattle.lhg_cli.specs.StateAnswer.{IsStateAnswer, IsExplainable, IsSureStatus}
+use Rattle.lhg_cli.specs.StateAnswer.{IsExplainable, IsSureStatus}
 use Rattle.lhg_cli.specs.Settling.{IsWithin, IsSettled, IsUnsettled}
 use Rattle.lhg_cli.specs.Summary.{IsSummary}
 use Rattle.lhg_cli.specs.Verdict.{IsChecked, IsValidInput, IsInvalidInput}
-use Rattle.lhg_cli.specs.Words.{Asks, NeedsInput, AsksSynth, AsksExplain, AsksGen, AskForInput, most_rounds}
+use Rattle.lhg_cli.specs.Words.{Asks, NeedsInput, AsksSynth, AsksExplain, AsksLazy, AsksReach, AsksGen, AskForInput, most_rounds}
 use Rattle.lhg_cli.specs.declared.request.Request.{Request}
-use Rattle.lhg_cli.specs.declared.request.Request.TheVariants.{Synth, Check, Run, Explain, Migrate, Gen}
+use Rattle.lhg_cli.specs.declared.request.Request.TheVariants.{Synth, Check, Run, Explain, Migrate, Lazy, Reach, Gen}
 use Rattle.lhg_cli.specs.declared.status.Status.{Status}
 use Rattle.lhg_cli.specs.declared.status.Status.TheVariants as status
-use Rattle.lhg_cli.proofs.AnswerSteps.{its_answer}
+use Rattle.lhg_cli.proofs.AnswerSteps.{its_answer, its_bytes}
 use Rattle.lhg_cli.proofs.GeneratedGame.{settles}
-use Rattle.lhg_cli.proofs.InputSteps.{of_value, no_value, its_bytes}
+use Rattle.lhg_cli.proofs.InputSteps.{of_value, no_value}
+use Rattle.lhg_cli.proofs.LazyComplete.{lazy_done, lazy_spent}
+use Rattle.lhg_cli.proofs.ReachComplete.{reached_done, reached_spent}
 use Rattle.lhg_cli.proofs.RunAnswers.{sure_ran, not_ran}
 use Rattle.lhg_cli.proofs.SeekComplete.{sure_of}
 use Rattle.lhg_cli.proofs.VerdictSteps.{valid_done, invalid_no}
@@ -94,10 +99,10 @@ no_report : (a : PlainPlant) (n : ℕ) → IsUnsettled a n → (text : List ℕ)
 no_report a n t text h = (outcome_laws a n).not_solved h.controller h.rounds h.losses h.solves t.removes
 
 -- ---- an input
-module _ (n : ℕ) (bytes : List ℕ) (s : Status) (text : List ℕ) (h : IsSynthAnswer n (Some bytes) s text) where
+module _ (n : ℕ) (bytes : List ℕ) (s : Status) (text : List ℕ) (h : AnswersBytes (Synth n) bytes s text) where
   -- an answer to an input is one to the plant that it is
   of_plant : (t : IsInput IsPlantText bytes) → IsSynthesis n t.value s text
-  of_plant t = of_value IsPlantText (IsSynthesis n) bytes (plant_reading.one_value (lines_of bytes)) t s text (its_bytes IsPlantText (IsSynthesis n) bytes s text h)
+  of_plant t = of_value IsPlantText (IsSynthesis n) bytes (plant_reading.one_value (lines_of bytes)) t s text h
 
   solvable_done : IsSolvable bytes n → (s ≡ status.Done) ⊎ (s ≡ status.Memory)
   solvable_done t = let p = of_plant t.input in settled_done (IsReport t.input.value n) t.input.value n p.0 t.settled s text p.1
@@ -107,33 +112,34 @@ module _ (n : ℕ) (bytes : List ℕ) (s : Status) (text : List ℕ) (h : IsSynt
 
 -- ---- words
 module _ (words : List (List ℕ)) (P Q : Type 0) (s : Status) (text : List ℕ) where
+  -- the answer to a source that tells its bytes
+  to_bytes : (r : Request) → NeedsInput r → (bytes : List ℕ) → IsAnswer words (Some bytes) s text → Asks words r → AnswersBytes r bytes s text
+  to_bytes r needs bytes h asked = its_bytes r needs bytes s text (its_answer words (Some bytes) s text r asked h)
+
   pub complete : (input : Option (List ℕ)) → IsAnswer words input s text → (n : ℕ) → AsksSynth words n
       → IfSome input (λ bytes. IsSolvable bytes n → P → Q → (s ≡ status.Done) ⊎ (s ≡ status.Memory))
   complete None h n asked = tt
-  complete (Some bytes) h n asked = λ t p q. solvable_done n bytes s text (its_answer words (Some bytes) s text (Synth n) asked h) t
+  complete (Some bytes) h n asked = λ t p q. solvable_done n bytes s text (to_bytes (Synth n) tt bytes h asked) t
 
   pub used_up : (input : Option (List ℕ)) → IsAnswer words input s text → (n : ℕ) → AsksSynth words n
       → IfSome input (λ bytes. IsUsedUp bytes n → P → Q → (s ≡ status.Spent) ⊎ (s ≡ status.Memory))
   used_up None h n asked = tt
-  used_up (Some bytes) h n asked = λ t p q. used_up_spent n bytes s text (its_answer words (Some bytes) s text (Synth n) asked h) t
+  used_up (Some bytes) h n asked = λ t p q. used_up_spent n bytes s text (to_bytes (Synth n) tt bytes h asked) t
 
   -- an input that is no text of what is asked for
-  not_text : (bytes : List ℕ) (r : Request) → IsAnswerTo r (Some bytes) s text → ¬ IsTextFor r bytes → (s ≡ status.Text) ⊎ (s ≡ status.Memory)
-  not_text bytes (Synth n) h t = inl (no_value IsPlantText (IsSynthesis n) bytes s text t (its_bytes IsPlantText (IsSynthesis n) bytes s text h))
-  not_text bytes Check h t = inl (no_value IsControllerInput IsChecked bytes s text t (its_bytes IsControllerInput IsChecked bytes s text h))
-  not_text bytes Run h t = inl (no_value IsLogInput IsRan bytes s text t (its_bytes IsLogInput IsRan bytes s text h))
-  not_text bytes (Explain n) h t = inl (no_value IsStateInput (IsStateAnswer n) bytes s text t (its_bytes IsStateInput (IsStateAnswer n) bytes s text h))
-  not_text bytes Migrate h t = inl (no_value IsControllerInput IsMigrated bytes s text t (its_bytes IsControllerInput IsMigrated bytes s text h))
-  not_text bytes (Gen k) h t = absurd (t tt)
+  no_text : (r : Request) (bytes : List ℕ) → AnswersBytes r bytes s text → ¬ IsTextFor r bytes → s ≡ status.Text
+  no_text (Gen k) bytes h t = absurd h
+  no_text r bytes h t = no_value bytes s text t h
 
   pub refused : (input : Option (List ℕ)) → IsAnswer words input s text → (r : Request) → Asks words r
       → IfSome input (λ bytes. ¬ IsTextFor r bytes → P → Q → (s ≡ status.Text) ⊎ (s ≡ status.Memory))
   refused None h r asked = tt
-  refused (Some bytes) h r asked = λ t p q. not_text bytes r (its_answer words (Some bytes) s text r asked h) t
+  refused (Some bytes) h (Gen k) asked = λ t p q. absurd (t tt)
+  refused (Some bytes) h r asked = λ t p q. inl (no_text r bytes (to_bytes r tt bytes h asked) t)
 
   -- what is checked is a controller that is written, and what is migrated too
   checked : (bytes : List ℕ) → IsAnswer words (Some bytes) s text → Asks words Check → (input : IsInput IsControllerInput bytes) → IsChecked input.value s text
-  checked bytes h asked input = of_value IsControllerInput IsChecked bytes (controllers_one.one_value (lines_of bytes)) input s text (its_bytes IsControllerInput IsChecked bytes s text (its_answer words (Some bytes) s text Check asked h))
+  checked bytes h asked input = of_value IsControllerInput IsChecked bytes (controllers_one.one_value (lines_of bytes)) input s text (to_bytes Check tt bytes h asked)
 
   pub valid : (input : Option (List ℕ)) → IsAnswer words input s text → Asks words Check
       → IfSome input (λ bytes. IsValidInput bytes → P → Q → (s ≡ status.Done) ⊎ (s ≡ status.Memory))
@@ -149,11 +155,11 @@ module _ (words : List (List ℕ)) (P Q : Type 0) (s : Status) (text : List ℕ)
       → IfSome input (λ bytes. IsTextFor Migrate bytes → P → Q → (s ≡ status.Done) ⊎ (s ≡ status.Memory))
   migrated None h asked = tt
   migrated (Some bytes) h asked = λ t p q.
-      inl (of_value IsControllerInput IsMigrated bytes (controllers_one.one_value (lines_of bytes)) t s text (its_bytes IsControllerInput IsMigrated bytes s text (its_answer words (Some bytes) s text Migrate asked h))).0
+      inl (of_value IsControllerInput IsMigrated bytes (controllers_one.one_value (lines_of bytes)) t s text (to_bytes Migrate tt bytes h asked)).0
 
   -- a controller that is written runs over a log that is recorded
   run_over : (bytes : List ℕ) → IsAnswer words (Some bytes) s text → Asks words Run → (input : IsInput IsLogInput bytes) → IsRan input.value s text
-  run_over bytes h asked input = of_value IsLogInput IsRan bytes (logs_one.one_value (lines_of bytes)) input s text (its_bytes IsLogInput IsRan bytes s text (its_answer words (Some bytes) s text Run asked h))
+  run_over bytes h asked input = of_value IsLogInput IsRan bytes (logs_one.one_value (lines_of bytes)) input s text (to_bytes Run tt bytes h asked)
 
   pub ran : (input : Option (List ℕ)) → IsAnswer words input s text → Asks words Run
       → IfSome input (λ bytes. (t : IsRunnable bytes) → P → Q → IsSureRun t.input.value s ⊎ (s ≡ status.Memory))
@@ -169,7 +175,36 @@ module _ (words : List (List ℕ)) (P Q : Type 0) (s : Status) (text : List ℕ)
       → IfSome input (λ bytes. (t : IsExplainable n bytes) → P → Q → IsSureStatus n t.input.value s ⊎ (s ≡ status.Memory))
   explained None h n asked = tt
   explained (Some bytes) h n asked = λ t p q.
-      inl (sure_of n bytes t.input s text (its_bytes IsStateInput (IsStateAnswer n) bytes s text (its_answer words (Some bytes) s text (Explain n) asked h)) t.limits)
+      inl (sure_of n bytes t.input s text (to_bytes (Explain n) tt bytes h asked) t.limits)
+
+  -- a plant for which a controller is asked that switches at the rim alone
+  lazied : (bytes : List ℕ) → IsAnswer words (Some bytes) s text → (n : ℕ) → AsksLazy words n → (input : IsInput IsPlantText bytes) → IsLazied n input.value s text
+  lazied bytes h n asked input = of_value IsPlantText (IsLazied n) bytes (plant_reading.one_value (lines_of bytes)) input s text (to_bytes (Lazy n) tt bytes h asked)
+
+  pub lazy : (input : Option (List ℕ)) → IsAnswer words input s text → (n : ℕ) → AsksLazy words n
+      → IfSome input (λ bytes. IsLazySolvable bytes n → P → Q → (s ≡ status.Done) ⊎ (s ≡ status.Memory))
+  lazy None h n asked = tt
+  lazy (Some bytes) h n asked = λ t p q. let l = lazied bytes h n asked t.input in lazy_done t.input.value n l.0 s text l.1 (λ stop. settled_done (λ told. ⊥) t.input.value n l.0 t.settled s text stop) t.limits
+
+  pub lazy_used_up : (input : Option (List ℕ)) → IsAnswer words input s text → (n : ℕ) → AsksLazy words n
+      → IfSome input (λ bytes. IsUsedUp bytes n → P → Q → (s ≡ status.Spent) ⊎ (s ≡ status.Memory))
+  lazy_used_up None h n asked = tt
+  lazy_used_up (Some bytes) h n asked = λ t p q.
+      let l = lazied bytes h n asked t.input in lazy_spent t.input.value n t.unsettled.removes s text l.1 (λ stop. unsettled_spent (λ told. ⊥) t.input.value n t.unsettled (λ told h. h) s text stop)
+
+  -- a plant and first states, of which it is asked where they lead
+  reached_by : (bytes : List ℕ) → IsAnswer words (Some bytes) s text → (n : ℕ) → AsksReach words n → (input : IsInput IsInitInput bytes) → IsReached n input.value s text
+  reached_by bytes h n asked input = of_value IsInitInput (IsReached n) bytes (inits_one.one_value (lines_of bytes)) input s text (to_bytes (Reach n) tt bytes h asked)
+
+  pub reach : (input : Option (List ℕ)) → IsAnswer words input s text → (n : ℕ) → AsksReach words n
+      → IfSome input (λ bytes. IsExplorable n bytes → P → Q → (s ≡ status.Done) ⊎ (s ≡ status.Memory))
+  reach None h n asked = tt
+  reach (Some bytes) h n asked = λ t p q. reached_done t.input.value n t.level t.last t.within t.limits s text (reached_by bytes h n asked t.input)
+
+  pub reach_endless : (input : Option (List ℕ)) → IsAnswer words input s text → (n : ℕ) → AsksReach words n
+      → IfSome input (λ bytes. IsEndless n bytes → P → Q → (s ≡ status.Spent) ⊎ (s ≡ status.Memory))
+  reach_endless None h n asked = tt
+  reach_endless (Some bytes) h n asked = λ t p q. reached_spent t.input.value n t.adds t.limits s text (reached_by bytes h n asked t.input)
 
 -- ---- a generated plant
 module _ (words : List (List ℕ)) (input : Option (List ℕ)) (s : Status) (text : List ℕ) (h : IsAnswer words input s text) (k : ℕ) (asked : AsksGen words k) where

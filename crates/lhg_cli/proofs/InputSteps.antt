@@ -1,5 +1,5 @@
 -- What answers an input that is refused, and one that has a value?
-use Rattle.std.proofs.Common.{◌≡◌, ◌≤◌, ◌<◌, ◌+◌, ℕ, List, Option, Some, None, IfSome, Result, Ok, Err, IfOk, length, replicate, inl, inr, refl, ◌∙◌, subst, arith}
+use Rattle.std.proofs.Common.{◌≡◌, ◌≤◌, ◌<◌, ◌+◌, ◌⊎◌, ℕ, List, Option, Some, None, IfSome, Result, Ok, Err, IfOk, length, replicate, inl, inr, refl, ◌∙◌, subst, arith}
 use Rattle.std.proofs.lemmas.List.{length-replicate}
 use Rattle.lhg_lex.specs.Lines.{lines_of, most_bytes}
 use Rattle.lhg_lex.specs.declared.stops.ReadStop.{ReadStop}
@@ -7,7 +7,7 @@ use Rattle.lhg_lex.specs.declared.stops.ReadStop.TheVariants.{Bad, Memory}
 use Rattle.lhg_lex.proofs.FirstBadProofs.{none_bad}
 use Rattle.lhg_input.specs.BadLine.{HasBadLine}
 use Rattle.lhg_input.specs.Then.{IsSome}
-use Rattle.lhg_cli.specs.InputAnswer.{IsInput, IsBytesAnswer, HasAnswer}
+use Rattle.lhg_cli.specs.InputAnswer.{IsInput, HasValue, IsBytesAnswer, HasAnswer}
 use Rattle.lhg_cli.specs.Refusal.{IsRefusal, TellsStop}
 use Rattle.lhg_cli.specs.declared.status.Status.{Status}
 use Rattle.lhg_cli.specs.declared.status.Status.TheVariants as status
@@ -47,23 +47,15 @@ module _ {V : Type 0} (Is : List (List ℕ) → V → Type 0) (answers : V → S
   of_value one input s text (inl h) = absurd (not_refused (IsSome Is) bytes text input.short (record { value = input.value; text = input.reads }) h.1)
   of_value one input s text (inr h) = subst (λ v. answers v s text) (one h.input.value input.value h.input.reads input.reads) h.answer
 
-  -- where there is none, it is refused
-  pub no_value : (s : Status) (text : List ℕ) → ¬ IsInput Is bytes → IsBytesAnswer Is answers bytes s text → s ≡ status.Text
-  no_value s text none (inl h) = h.0
-  no_value s text none (inr h) = absurd (none h.input)
+-- where there is none, it is refused
+pub no_value : {V : Type 0} {Is : List (List ℕ) → V → Type 0} {holds : V → Type 0} (bytes : List ℕ) (s : Status) (text : List ℕ) → ¬ IsInput Is bytes → ((s ≡ status.Text) × IsRefusal (IsSome Is) bytes text) ⊎ HasValue Is holds bytes → s ≡ status.Text
+no_value bytes s text none (inl h) = h.0
+no_value bytes s text none (inr h) = absurd (none h.input)
 
-  -- the answer of a source that tells its bytes is the answer to them
-  pub its_bytes : (s : Status) (text : List ℕ) → HasAnswer (λ bs. IsBytesAnswer Is answers bs s text) (Some bytes) → IsBytesAnswer Is answers bytes s text
-  its_bytes s text h = subst (λ bs. IsBytesAnswer Is answers bs s text) h.told h.answer
-
--- an answer to bytes is one of the source that has them
-pub of_bytes : (answered : List ℕ → Type 0) (bytes : List ℕ) → answered bytes → HasAnswer answered (Some bytes)
-of_bytes answered bytes h = record { bytes = bytes; told = refl; answer = h }
-
--- the same, where the source may not tell its bytes
-pub of_source : (answered : List ℕ → Type 0) (input : Option (List ℕ)) (bytes read : List ℕ) → IfSome input (λ left. read ≡ left) → bytes ≡ read → HasAnswer answered (Some bytes) → HasAnswer answered input
-of_source answered None bytes read same e h = record { bytes = h.bytes; told = tt; answer = h.answer }
-of_source answered (Some left) bytes read same e h = record { bytes = h.bytes; told = h.told ∙ e ∙ same; answer = h.answer }
+-- an answer to bytes is one of the source that has them, or does not tell them
+pub of_source : (answered : List ℕ → Type 0) (input : Option (List ℕ)) (bytes read : List ℕ) → IfSome input (λ left. read ≡ left) → bytes ≡ read → answered bytes → HasAnswer answered input
+of_source answered None bytes read same e h = record { bytes = bytes; told = tt; answer = h }
+of_source answered (Some left) bytes read same e h = record { bytes = bytes; told = e ∙ same; answer = h }
 
 -- some input is longer than n
 longer : (n : ℕ) → n < length {A = ℕ} (replicate (n + 1) 0)

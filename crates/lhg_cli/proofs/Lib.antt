@@ -3,10 +3,16 @@ pub mod Complete
 pub mod GeneratedGame
 pub mod GuardSteps
 pub mod InputSteps
+pub mod LazyComplete
+pub mod LazyParts
+pub mod LazySteps
 pub mod LogPlaces
 pub mod LostSteps
 pub mod PieceCounts
 pub mod Placed
+pub mod ReachComplete
+pub mod ReachSteps
+pub mod ReadNever
 pub mod RunAnswers
 pub mod SeekComplete
 pub mod StatePlaces

@@ -11,13 +11,14 @@ use Rattle.lhg_lex.specs.PlainToken.{PlainToken}
 use Rattle.lhg_lex.proofs.LineCounts.{lines_count}
 use Rattle.lhg_plant.specs.Plant.{PlainPlant}
 use Rattle.lhg_plant.specs.Run.{PlainEntry, flow_entry, env_entry, land_entry}
+use Rattle.lhg_read.specs.Listed.{alone}
 use Rattle.lhg_read.specs.Options.{joined}
 use Rattle.lhg_read.specs.PlantText.{said_in}
 use Rattle.lhg_read.specs.PointText.{number_in, point_of}
 use Rattle.lhg_read.specs.Signs.{is_word, is_minus}
 use Rattle.lhg_read.specs.TokenText.{token_line, token_lines}
 use Rattle.lhg_read.proofs.Answered.{was_there}
-use Rattle.lhg_ctl.specs.ControllerLine.{alone, is_uncontrollable, switch_in}
+use Rattle.lhg_read.specs.SwitchName.{is_uncontrollable, switch_in}
 use Rattle.lhg_ctl.specs.Draft.{PlainDraft}
 use Rattle.lhg_ctl.specs.LogText.{PlainLog, LogLine, entry, end, signed_by, timed, flow_of, env_of, log_line, said_entries}
 use Rattle.lhg_run.specs.Views.{IsOver}

@@ -14,9 +14,10 @@ use Rattle.lhg_loss.specs.Holding.{HoldsState, IsFirstHolding}
 use Rattle.lhg_loss.specs.Views.{plain_loss, plain_losses}
 use Rattle.lhg_loss.specs.declared.losses.Loss.{Loss}
 use Rattle.lhg_iterate.specs.Seeking.{IsLost}
-use Rattle.lhg_explain.specs.Explanation.{PlainEscape}
-use Rattle.lhg_explain.specs.Explained.{IsHeldBy, IsLeft, IsExplained}
-use Rattle.lhg_explain.specs.Views.{plain_last}
+use Rattle.lhg_plant.specs.Explained.{PlainEscape}
+use Rattle.lhg_loss.specs.ExplainFacts.{IsHeldBy}
+use Rattle.lhg_plant.specs.Explained.{IsLeft, IsExplained}
+use Rattle.lhg_play.specs.Views.{plain_last}
 use Rattle.lhg_explain.proofs.HeldRecords.{there_listed}
 use Rattle.lhg_text.specs.EscapeText.{plain_exit, IsFittingMove, IsPlacedExit}
 use Rattle.lhg_cli.proofs.Placed.{there, round_state, placed_state}

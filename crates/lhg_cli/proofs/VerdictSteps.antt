@@ -1,5 +1,5 @@
 -- What does a verdict show, and which answer tells it?
-use Rattle.std.proofs.Common.{◌≡◌, inl, inr, ℕ, Bool, false, List, [], ◌∷◌, ◌++◌, Result, Ok, Err, IfOk, slice_get, ap, sym, ◌∙◌, subst, append_assoc, refl}
+use Rattle.std.proofs.Common.{◌≡◌, inl, inr, ℕ, Bool, false, List, [], ◌∷◌, ◌++◌, Result, Ok, codes, Err, IfOk, slice_get, ap, sym, ◌∙◌, subst, append_assoc, refl}
 use Rattle.lhg_math.specs.Tests.{false_true}
 use Rattle.lhg_num.specs.Marked.{Marked}
 use Rattle.lhg_num.specs.Halting.{IsHaltedBy}
@@ -72,13 +72,13 @@ module _ (w : PlainPlant × PlainDraft) (c : PlainController) (v : PlainVerdict)
       (λ a s t. subst (λ (k : Status). IsChecked w k a.text.items) (sym s) (by_verdict w a.text.items (verdict_line a.text.items t) v exact_made))
 
 -- ---- the answer where it is not known
-told_halt : {T : Type 0} (w : PlainPlant × PlainDraft) (f : T → PlainVerdict) (halt : Halt) (s : Status) (text : List ℕ) → IsHaltedBy (Err halt) (check_of w) f → TellsHalt halt s text → IsChecked w s text
+told_halt : {T : Type 0} (w : PlainPlant × PlainDraft) (f : T → PlainVerdict) (halt : Halt) (s : Status) (text : List ℕ) → IsHaltedBy (Err halt) (check_of w) f → TellsHalt (codes "check") halt s text → IsChecked w s text
 told_halt w f Wide s text h t = subst (λ (k : Status). IsChecked w k text) (sym t.0) (record { marked = h; printed = t.1 })
 told_halt w f Rows s text h t = subst (λ (k : Status). IsChecked w k text) (sym t.0) (inl (record { marked = h; printed = t.1 }))
 told_halt w f Pieces s text h t = subst (λ (k : Status). IsChecked w k text) (sym t.0) (inr (record { marked = h; printed = t.1 }))
 told_halt w f Memory s text h t = absurd t
 
-pub halt_told : {T E : Type 0} (w : PlainPlant × PlainDraft) (f : T → PlainVerdict) (halt : Halt) (r : Result Answer E) → IsHaltedBy (Err halt) (check_of w) f → IfOk r (λ a. TellsHalt halt a.status a.text.items)
+pub halt_told : {T E : Type 0} (w : PlainPlant × PlainDraft) (f : T → PlainVerdict) (halt : Halt) (r : Result Answer E) → IsHaltedBy (Err halt) (check_of w) f → IfOk r (λ a. TellsHalt (codes "check") halt a.status a.text.items)
     → IfOk r (λ a. IsChecked w a.status a.text.items)
 halt_told w f halt (Ok a) h t = told_halt w f halt a.status a.text.items h t
 halt_told w f halt (Err e) h t = tt

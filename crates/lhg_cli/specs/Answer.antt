@@ -4,32 +4,41 @@ use Rattle.std.specs.Io.KnownBytes.{IsAtEnd}
 use Rattle.lhg_lex.specs.Lines.{most_bytes}
 use Rattle.lhg_read.specs.PlantText.{IsPlantText}
 use Rattle.lhg_row_text.specs.PrintedLine.{line}
-use Rattle.lhg_input.specs.Inputs.{IsControllerInput, IsLogInput, IsStateInput}
-use Rattle.lhg_cli.specs.InputAnswer.{IsInput}
-use Rattle.lhg_cli.specs.Migration.{IsMigrateAnswer}
-use Rattle.lhg_cli.specs.PlantAnswer.{IsSynthAnswer}
-use Rattle.lhg_cli.specs.RunAnswer.{IsRunAnswer}
+use Rattle.lhg_input.specs.Inputs.{IsControllerInput, IsInitInput, IsLogInput, IsStateInput}
+use Rattle.lhg_cli.specs.InputAnswer.{IsInput, IsBytesAnswer, HasAnswer}
+use Rattle.lhg_cli.specs.LazyAnswer.{IsLazied}
+use Rattle.lhg_cli.specs.Migration.{IsMigrated}
+use Rattle.lhg_cli.specs.PlantAnswer.{IsSynthesis}
+use Rattle.lhg_cli.specs.ReachAnswer.{IsReached}
+use Rattle.lhg_cli.specs.RunAnswer.{IsRan}
 use Rattle.lhg_cli.specs.Settling.{IsSettled, IsUnsettled}
-use Rattle.lhg_cli.specs.StateAnswer.{IsExplainAnswer}
+use Rattle.lhg_cli.specs.StateAnswer.{IsStateAnswer}
 use Rattle.lhg_cli.specs.Summary.{IsGenAnswer}
-use Rattle.lhg_cli.specs.Verdict.{IsCheckAnswer}
+use Rattle.lhg_cli.specs.Verdict.{IsChecked}
 use Rattle.lhg_cli.specs.Words.{Asks, AreKnown}
 use Rattle.lhg_cli.specs.declared.request.Request.{Request}
-use Rattle.lhg_cli.specs.declared.request.Request.TheVariants.{Synth, Check, Run, Explain, Migrate, Gen}
+use Rattle.lhg_cli.specs.declared.request.Request.TheVariants.{Synth, Check, Run, Explain, Migrate, Lazy, Reach, Gen}
 use Rattle.lhg_cli.specs.declared.status.Status.{Status}
 use Rattle.lhg_cli.specs.declared.status.Status.TheVariants as status
 
 abbrev pub usage_text : List ℕ
-usage_text = line (codes "usage: lhg synth [N] | check | run | explain [N] | gen K | migrate")
+usage_text = line (codes "usage: lhg synth [N] | check | run | explain [N] | gen K | migrate | lazy [N] | reach [N]")
 
--- the text that stands for the status of what is asked for
+-- the text that stands for the status of what is asked for of the bytes of an input
+abbrev pub AnswersBytes : Request → List ℕ → Status → List ℕ → Type 0
+AnswersBytes (Synth n) bytes s text = IsBytesAnswer IsPlantText (IsSynthesis n) bytes s text
+AnswersBytes Check bytes s text = IsBytesAnswer IsControllerInput IsChecked bytes s text
+AnswersBytes Run bytes s text = IsBytesAnswer IsLogInput IsRan bytes s text
+AnswersBytes (Explain n) bytes s text = IsBytesAnswer IsStateInput (IsStateAnswer n) bytes s text
+AnswersBytes Migrate bytes s text = IsBytesAnswer IsControllerInput IsMigrated bytes s text
+AnswersBytes (Lazy n) bytes s text = IsBytesAnswer IsPlantText (IsLazied n) bytes s text
+AnswersBytes (Reach n) bytes s text = IsBytesAnswer IsInitInput (IsReached n) bytes s text
+AnswersBytes (Gen k) bytes s text = ⊥
+
+-- the text that stands for the status of what is asked for, of an input where that is needed
 abbrev pub IsAnswerTo : Request → Option (List ℕ) → Status → List ℕ → Type 0
-IsAnswerTo (Synth n) input s text = IsSynthAnswer n input s text
-IsAnswerTo Check input s text = IsCheckAnswer input s text
-IsAnswerTo Run input s text = IsRunAnswer input s text
-IsAnswerTo (Explain n) input s text = IsExplainAnswer n input s text
-IsAnswerTo Migrate input s text = IsMigrateAnswer input s text
 IsAnswerTo (Gen k) input s text = IsGenAnswer k s text
+IsAnswerTo r input s text = HasAnswer (λ bytes. AnswersBytes r bytes s text) input
 
 -- the words ask for something that has this answer
 pub record IsAskedFor (words : List (List ℕ)) (input : Option (List ℕ)) (s : Status) (text : List ℕ) : Type 0 where
@@ -61,6 +70,8 @@ IsTextFor Check bytes = IsInput IsControllerInput bytes
 IsTextFor Run bytes = IsInput IsLogInput bytes
 IsTextFor (Explain n) bytes = IsInput IsStateInput bytes
 IsTextFor Migrate bytes = IsInput IsControllerInput bytes
+IsTextFor (Lazy n) bytes = IsInput IsPlantText bytes
+IsTextFor (Reach n) bytes = IsInput IsInitInput bytes
 IsTextFor (Gen k) bytes = Unit {0}
 
 -- the input is the text of a plant that is settled within the budget

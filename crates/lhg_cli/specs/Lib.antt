@@ -1,8 +1,10 @@
 pub mod Answer
 pub mod InputAnswer
+pub mod LazyAnswer
 pub mod Migration
 pub mod Numbers
 pub mod PlantAnswer
+pub mod ReachAnswer
 pub mod Refusal
 pub mod RunAnswer
 pub mod Settling

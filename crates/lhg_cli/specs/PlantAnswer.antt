@@ -1,12 +1,11 @@
 -- Which text answers a plant within a budget of rounds, with which status?
-use Rattle.std.specs.Prelude.{◌≡◌, ◌⊎◌, ℕ, Bool, List, ◌++◌, codes, decimal, Option}
+use Rattle.std.specs.Prelude.{◌≡◌, ◌⊎◌, ℕ, Bool, List, ◌++◌, codes, decimal}
 use Rattle.lhg_num.specs.Marked.{Marked}
 use Rattle.lhg_plant.specs.Controller.{PlainController}
 use Rattle.lhg_plant.specs.Loss.{PlainLoss}
 use Rattle.lhg_plant.specs.Plant.{PlainPlant}
 use Rattle.lhg_plant.specs.Proper.{IsProper}
 use Rattle.lhg_plant.specs.State.{PlainState}
-use Rattle.lhg_read.specs.PlantText.{IsPlantText}
 use Rattle.lhg_loss.specs.Iterate.{solution, solved, spent}
 use Rattle.lhg_loss.specs.StageFacts.{IsSolved, IsSpent}
 use Rattle.lhg_loss.specs.WorkLaws.{IsStopIn}
@@ -14,7 +13,6 @@ use Rattle.lhg_row_text.specs.PrintedLine.{line}
 use Rattle.lhg_row_text.specs.PointText.{state_text}
 use Rattle.lhg_text.specs.ReportText.{report_text}
 use Rattle.lhg_text.specs.ReportLaws.{IsWrittenReport, SameReport}
-use Rattle.lhg_cli.specs.InputAnswer.{IsBytesAnswer, HasAnswer}
 use Rattle.lhg_cli.specs.declared.status.Status.{Status}
 use Rattle.lhg_cli.specs.declared.status.Status.TheVariants as status
 
@@ -62,10 +60,6 @@ IsPlantAnswer a budget s text = IsOutcome (IsReport a budget) a budget s text
 -- the same of a plant whose names, places and sizes are as they should be
 abbrev pub IsSynthesis : ℕ → PlainPlant → Status → List ℕ → Type 0
 IsSynthesis budget a s text = IsProper a × IsPlantAnswer a budget s text
-
--- the text that stands for the status where a controller is asked for of an input
-abbrev pub IsSynthAnswer : ℕ → Option (List ℕ) → Status → List ℕ → Type 0
-IsSynthAnswer budget input s text = HasAnswer (λ bytes. IsBytesAnswer IsPlantText (IsSynthesis budget) bytes s text) input
 
 -- the text that stands for the status where nothing solves the game
 abbrev pub IsStopText : PlainPlant → ℕ → Status → List ℕ → Type 0

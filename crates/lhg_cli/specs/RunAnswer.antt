@@ -1,5 +1,5 @@
 -- Which text tells the run of a controller that is written over a log, with which status?
-use Rattle.std.specs.Prelude.{◌≡◌, ◌⊎◌, ℕ, List, ◌++◌, codes, decimal, Option, Some, None}
+use Rattle.std.specs.Prelude.{◌≡◌, ◌⊎◌, ℕ, List, ◌++◌, codes, decimal, Some, None}
 use Rattle.lhg_plant.specs.Controller.{PlainController, IsValid}
 use Rattle.lhg_plant.specs.Log.{IsLegalLog, IsFirstIllegal}
 use Rattle.lhg_plant.specs.Plant.{PlainPlant}
@@ -12,7 +12,7 @@ use Rattle.lhg_run.specs.Answers.{IsTraceOf, IsTraceBefore}
 use Rattle.lhg_run.specs.Numbers.{IsWideAt, IsLongAt}
 use Rattle.lhg_text.specs.TraceText.{trace_text}
 use Rattle.lhg_input.specs.Inputs.{IsLogInput}
-use Rattle.lhg_cli.specs.InputAnswer.{IsInput, IsBytesAnswer, HasAnswer}
+use Rattle.lhg_cli.specs.InputAnswer.{IsInput}
 use Rattle.lhg_cli.specs.Verdict.{controller_in, KeepsWritten, IsVerdictLine, IsCheckStop, IsWithinCheck}
 use Rattle.lhg_cli.specs.declared.status.Status.{Status}
 use Rattle.lhg_cli.specs.declared.status.Status.TheVariants as status
@@ -74,10 +74,6 @@ pub record IsRunOf (input : (PlainPlant × PlainDraft) × PlainLog) (s : Status)
 -- the answer of the check where the controller is not valid or a limit is passed, and else that of the run
 abbrev pub IsRan : (PlainPlant × PlainDraft) × PlainLog → Status → List ℕ → Type 0
 IsRan input s text = IsCheckNo input.0 s text ⊎ IsRunOf input s text
-
--- the text that stands for the status where a controller is to run over a log
-abbrev pub IsRunAnswer : Option (List ℕ) → Status → List ℕ → Type 0
-IsRunAnswer input s text = HasAnswer (λ bytes. IsBytesAnswer IsLogInput IsRan bytes s text) input
 
 -- ---- where an answer is sure
 -- the check stays within its limits, and so does each entry to which the run comes

@@ -1,8 +1,8 @@
 -- Which text tells what becomes of a state of a plant within a budget of rounds, with which status?
-use Rattle.std.specs.Prelude.{◌≡◌, ◌<◌, ◌≤◌, ◌⊎◌, ℕ, Bool, true, false, List, ◌++◌, codes, decimal, Option}
+use Rattle.std.specs.Prelude.{◌≡◌, ◌<◌, ◌≤◌, ◌⊎◌, ℕ, Bool, true, false, List, ◌++◌, codes, decimal}
 use Rattle.lhg_num.specs.FracArithmetic.{frac_arithmetic}
 use Rattle.lhg_num.specs.Marked.{Marked, valued}
-use Rattle.lhg_plant.specs.LegalTruths.{state_truth}
+use Rattle.lhg_plant.specs.LegalTruths.{state_truth, safe_truth}
 use Rattle.lhg_plant.specs.Plant.{PlainPlant}
 use Rattle.lhg_plant.specs.State.{PlainState, IsState, IsSafe}
 use Rattle.lhg_plant.specs.Round.{InRound, IsRemovedIn}
@@ -11,14 +11,15 @@ use Rattle.lhg_loss.specs.Holding.{holding}
 use Rattle.lhg_loss.specs.Iterate.{stage, nothing, solution, spent}
 use Rattle.lhg_loss.specs.StageFacts.{IsSpent, RemovesSome}
 use Rattle.lhg_iterate.specs.Seeking.{IsKept, IsLost, IsSeekStopIn, IsWideState}
-use Rattle.lhg_iterate.specs.SeekWork.{safe_truth, IsUndecided, seek_work}
-use Rattle.lhg_explain.specs.Explanation.{PlainEscape, explanation}
-use Rattle.lhg_explain.specs.Explained.{IsExplained}
+use Rattle.lhg_iterate.specs.SeekWork.{IsUndecided, seek_work}
+use Rattle.lhg_plant.specs.Explained.{PlainEscape}
+use Rattle.lhg_loss.specs.Explanation.{explanation}
+use Rattle.lhg_plant.specs.Explained.{IsExplained}
 use Rattle.lhg_row_text.specs.PrintedLine.{line}
 use Rattle.lhg_row_text.specs.PointText.{state_text}
 use Rattle.lhg_text.specs.EscapeText.{escape_text}
 use Rattle.lhg_input.specs.Inputs.{IsStateInput}
-use Rattle.lhg_cli.specs.InputAnswer.{IsInput, IsBytesAnswer, HasAnswer}
+use Rattle.lhg_cli.specs.InputAnswer.{IsInput}
 use Rattle.lhg_cli.specs.declared.status.Status.{Status}
 use Rattle.lhg_cli.specs.declared.status.Status.TheVariants as status
 
@@ -93,10 +94,6 @@ IsStateAnswer budget (a, z) status.Spent text = IsStillInText a budget z text
 IsStateAnswer budget (a, z) status.Read text = ⊥
 IsStateAnswer budget (a, z) status.Write text = ⊥
 IsStateAnswer budget (a, z) status.Memory text = ⊥
-
--- the same for an input
-abbrev pub IsExplainAnswer : ℕ → Option (List ℕ) → Status → List ℕ → Type 0
-IsExplainAnswer budget input s text = HasAnswer (λ bytes. IsBytesAnswer IsStateInput (IsStateAnswer budget) bytes s text) input
 
 -- ---- where an answer is sure
 -- no number at the asked state is too wide; no limit is passed in the work of a round up to the one that decides, nor by an explanation

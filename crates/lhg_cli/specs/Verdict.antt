@@ -1,5 +1,5 @@
 -- Which text tells whether a controller that is written is valid, with which status?
-use Rattle.std.specs.Prelude.{◌≡◌, ◌<◌, ◌↔◌, ◌⊎◌, ℕ, List, [], ◌∷◌, ◌++◌, Bool, true, false, length, codes, slice_get, Option}
+use Rattle.std.specs.Prelude.{◌≡◌, ◌<◌, ◌↔◌, ◌⊎◌, ℕ, List, [], ◌∷◌, ◌++◌, Bool, true, false, length, codes, slice_get}
 use Rattle.lhg_num.specs.Marked.{Marked, and_then}
 use Rattle.lhg_num.specs.declared.refusals.Halt.{Halt}
 use Rattle.lhg_num.specs.declared.refusals.Halt.TheVariants.{Wide, Rows, Pieces, Memory}
@@ -16,7 +16,7 @@ use Rattle.lhg_check.specs.Check.{PlainVerdict, valid, unsafe, bad_guard, escape
 use Rattle.lhg_check.specs.CheckLaws.{IsExactVerdict}
 use Rattle.lhg_text.specs.TraceText.{IsPlacedState}
 use Rattle.lhg_input.specs.Inputs.{IsControllerInput}
-use Rattle.lhg_cli.specs.InputAnswer.{IsInput, IsBytesAnswer, HasAnswer}
+use Rattle.lhg_cli.specs.InputAnswer.{IsInput}
 use Rattle.lhg_cli.specs.declared.status.Status.{Status}
 use Rattle.lhg_cli.specs.declared.status.Status.TheVariants as status
 
@@ -81,16 +81,12 @@ IsChecked written status.Read text = ⊥
 IsChecked written status.Write text = ⊥
 IsChecked written status.Memory text = ⊥
 
--- the status and the text of a limit
-abbrev pub TellsHalt : Halt → Status → List ℕ → Type 0
-TellsHalt Wide s text = (s ≡ status.Wide) × (text ≡ line (codes "wide check"))
-TellsHalt Rows s text = (s ≡ status.Lists) × (text ≡ line (codes "rows check"))
-TellsHalt Pieces s text = (s ≡ status.Lists) × (text ≡ line (codes "pieces check"))
-TellsHalt Memory s text = ⊥
-
--- the text that stands for the status where a controller is to be checked
-abbrev pub IsCheckAnswer : Option (List ℕ) → Status → List ℕ → Type 0
-IsCheckAnswer input s text = HasAnswer (λ bytes. IsBytesAnswer IsControllerInput IsChecked bytes s text) input
+-- the status and the text of a limit that is passed in the work of a place
+abbrev pub TellsHalt : List ℕ → Halt → Status → List ℕ → Type 0
+TellsHalt place Wide s text = (s ≡ status.Wide) × (text ≡ line (codes "wide " ++ place))
+TellsHalt place Rows s text = (s ≡ status.Lists) × (text ≡ line (codes "rows " ++ place))
+TellsHalt place Pieces s text = (s ≡ status.Lists) × (text ≡ line (codes "pieces " ++ place))
+TellsHalt place Memory s text = ⊥
 
 -- ---- where the check has a verdict
 -- the calculus stays within its limits

@@ -2,7 +2,7 @@
 use Rattle.std.specs.Prelude.{◌≡◌, ◌≤◌, ◌⊎◌, ℕ, List, [], ◌∷◌, codes, decimal}
 use Rattle.lhg_gen.specs.Sizes.{IsSize}
 use Rattle.lhg_cli.specs.declared.request.Request.{Request}
-use Rattle.lhg_cli.specs.declared.request.Request.TheVariants.{Synth, Check, Run, Explain, Migrate, Gen}
+use Rattle.lhg_cli.specs.declared.request.Request.TheVariants.{Synth, Check, Run, Explain, Migrate, Lazy, Reach, Gen}
 
 -- the number of rounds where the words name none, and the largest that they may name
 abbrev pub usual_budget : ℕ
@@ -11,13 +11,25 @@ usual_budget = 64
 abbrev pub most_rounds : ℕ
 most_rounds = 1000
 
--- a controller is asked for, within n rounds: `synth`, for the usual number, or `synth N`, N being n in decimal, from 1 to 1,000
-abbrev pub AsksSynth : List (List ℕ) → ℕ → Type 0
-AsksSynth words n = ((words ≡ codes "synth" ∷ []) × (n ≡ usual_budget)) ⊎ ((words ≡ codes "synth" ∷ decimal n ∷ []) × (1 ≤ n) × (n ≤ most_rounds))
+-- n rounds are asked for: by the word alone, for the usual number, or by the word and n in decimal, from 1 to 1,000
+abbrev pub AsksWithin : List ℕ → List (List ℕ) → ℕ → Type 0
+AsksWithin word words n = ((words ≡ word ∷ []) × (n ≡ usual_budget)) ⊎ ((words ≡ word ∷ decimal n ∷ []) × (1 ≤ n) × (n ≤ most_rounds))
 
--- what becomes of a state is asked for, within n rounds: `explain` or `explain N`, in the same way
+-- a controller is asked for, within n rounds
+abbrev pub AsksSynth : List (List ℕ) → ℕ → Type 0
+AsksSynth words n = AsksWithin (codes "synth") words n
+
+-- what becomes of a state is asked for, within n rounds
 abbrev pub AsksExplain : List (List ℕ) → ℕ → Type 0
-AsksExplain words n = ((words ≡ codes "explain" ∷ []) × (n ≡ usual_budget)) ⊎ ((words ≡ codes "explain" ∷ decimal n ∷ []) × (1 ≤ n) × (n ≤ most_rounds))
+AsksExplain words n = AsksWithin (codes "explain") words n
+
+-- a controller that switches at the rim alone is asked for, within n rounds
+abbrev pub AsksLazy : List (List ℕ) → ℕ → Type 0
+AsksLazy words n = AsksWithin (codes "lazy") words n
+
+-- where a plant can get is asked for, within n rounds
+abbrev pub AsksReach : List (List ℕ) → ℕ → Type 0
+AsksReach words n = AsksWithin (codes "reach") words n
 
 -- the summary of a generated plant with k locations is asked for: `gen K`, K being k in decimal, from 1 to 64
 abbrev pub AsksGen : List (List ℕ) → ℕ → Type 0
@@ -30,6 +42,8 @@ Asks words Check = words ≡ codes "check" ∷ []
 Asks words Run = words ≡ codes "run" ∷ []
 Asks words (Explain n) = AsksExplain words n
 Asks words Migrate = words ≡ codes "migrate" ∷ []
+Asks words (Lazy n) = AsksLazy words n
+Asks words (Reach n) = AsksReach words n
 Asks words (Gen k) = AsksGen words k
 
 -- the words are some that the program knows
@@ -38,12 +52,8 @@ AreKnown words = (r : Request) × Asks words r
 
 -- what is answered from the input
 abbrev pub NeedsInput : Request → Type 0
-NeedsInput (Synth n) = Unit {0}
-NeedsInput Check = Unit {0}
-NeedsInput Run = Unit {0}
-NeedsInput (Explain n) = Unit {0}
-NeedsInput Migrate = Unit {0}
 NeedsInput (Gen k) = ⊥
+NeedsInput r = Unit {0}
 
 -- the words ask for something that is answered from the input
 abbrev pub AskForInput : List (List ℕ) → Type 0
@@ -52,8 +62,7 @@ AskForInput words = (r : Request) × Asks words r × NeedsInput r
 -- the number of rounds that is asked for is from 1 to the largest
 abbrev pub HasRounds : Request → Type 0
 HasRounds (Synth n) = (1 ≤ n) × (n ≤ most_rounds)
-HasRounds Check = Unit {0}
-HasRounds Run = Unit {0}
 HasRounds (Explain n) = (1 ≤ n) × (n ≤ most_rounds)
-HasRounds Migrate = Unit {0}
-HasRounds (Gen k) = Unit {0}
+HasRounds (Lazy n) = (1 ≤ n) × (n ≤ most_rounds)
+HasRounds (Reach n) = (1 ≤ n) × (n ≤ most_rounds)
+HasRounds r = Unit {0}

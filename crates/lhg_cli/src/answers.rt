@@ -5,9 +5,13 @@ ghost use Rattle.lhg_row_text.specs.PointText.{state_text};
 ghost use Rattle.lhg_row_text.specs.PrintedLine.{line};
 ghost use Rattle.lhg_cli.specs.Refusal.{what_text, bad_line};
 ghost use Rattle.lhg_cli.specs.Answer.{usage_text};
+ghost use Rattle.lhg_cli.specs.Verdict.{TellsHalt};
 
+use crate::Status;
+use crate::solving::Answer;
 use itoa::Buffer;
 use lhg_lex::What;
+use lhg_num::Halt;
 use lhg_plant::{Plant, State};
 use lhg_row_text::push_state;
 use std::alloc::{AllocError, Global};
@@ -18,7 +22,7 @@ pub fn usage(alloc: Global) -> Result<Vec<u8>, AllocError>
 {
     Vec::from_slice(
         alloc,
-        b"usage: lhg synth [N] | check | run | explain [N] | gen K | migrate\n",
+        b"usage: lhg synth [N] | check | run | explain [N] | gen K | migrate | lazy [N] | reach [N]\n",
     )
 }
 
@@ -50,6 +54,29 @@ pub fn past_limit(alloc: Global, limit: &[u8], round: u32) -> Result<Vec<u8>, Al
     text.extend_from_slice(buffer.format(round).as_bytes())?;
     text.extend_from_slice(b"\n")?;
     Ok(text)
+}
+
+/// The answer where the work of a place passes a limit.
+pub fn halted(alloc: Global, halt: Halt, place: &[u8]) -> Result<Answer, AllocError>
+    ensures { IfOk result (λ a. TellsHalt place.now halt a.status a.text.items) }
+{
+    match halt {
+        Halt::Wide => limited(alloc, Status::Wide, b"wide ", place),
+        Halt::Rows => limited(alloc, Status::Lists, b"rows ", place),
+        Halt::Pieces => limited(alloc, Status::Lists, b"pieces ", place),
+        Halt::Memory => Err(AllocError),
+    }
+}
+
+// The answer of a status, a limit and a place.
+fn limited(alloc: Global, status: Status, limit: &[u8], place: &[u8]) -> Result<Answer, AllocError>
+    ensures status { IfOk result (λ a. a.status ≡ status) }
+    ensures text { IfOk result (λ a. a.text.items ≡ line (limit.now ++ place.now)) }
+{
+    let mut text = limit.to_vec(alloc)?;
+    text.extend_from_slice(place)?;
+    text.extend_from_slice(b"\n")?;
+    Ok(Answer { status, text })
 }
 
 /// The lines that name a spent budget and a state that its last round removes.

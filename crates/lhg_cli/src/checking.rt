@@ -7,7 +7,8 @@ ghost use Rattle.lhg_input.specs.Inputs.{IsControllerInput};
 ghost use Rattle.lhg_cli.specs.InputAnswer.{IsBytesAnswer};
 ghost use Rattle.lhg_cli.specs.Verdict.{IsChecked};
 
-use crate::judging::{halted, judge, verdict_answer};
+use crate::answers::halted;
+use crate::judging::{judge, verdict_answer};
 use crate::refusing::refused;
 use crate::solving::Answer;
 use lhg_ctl::Draft;
@@ -23,7 +24,7 @@ fn check_written(alloc: Global, plant: &Plant, draft: &Draft) -> Result<Answer, 
 {
     match judge(alloc, plant, draft) {
         Ok(found) => verdict_answer(alloc, plant, &found.verdict),
-        Err(halt) => halted(alloc, halt),
+        Err(halt) => halted(alloc, halt, b"check"),
     }
 }
 

@@ -1,4 +1,4 @@
-//! What becomes of states, and runs over logs.
+//! What becomes of states, where first ones lead, and runs over logs.
 use crate::Status;
 use crate::plant_texts::{
     BEND, DEPENDENCE, EDGE, NO_END, ONE_FLOW, OPEN_EDGE, OPEN_EDGE_CONTROLLER, PICKED_RESULT,
@@ -7,8 +7,8 @@ use crate::plant_texts::{
 use crate::tests::run;
 use std::test::Fail;
 
-// What is asked of a plant and a state, with the answers.
-const STATES: [(&[&str], &[u8], &[u8], Status, &[u8]); 12] = [
+// What is asked of a plant and a state, or of a plant and its first states, with the answers.
+const STATES: [(&[&str], &[u8], &[u8], Status, &[u8]); 21] = [
     (
         &["explain"],
         DEPENDENCE,
@@ -92,6 +92,69 @@ const STATES: [(&[&str], &[u8], &[u8], Status, &[u8]); 12] = [
         b"state only x = 8\n",
         Status::Done,
         b"round 1\nflow 2 x = 10\nend\n",
+    ),
+    (
+        &["reach", "5"],
+        ONE_FLOW,
+        b"init only x = 3\nend\n",
+        Status::Done,
+        b"reach 1\nrounds 2\npiece only x >= 3, x <= 3\npiece only x > 3, x <= 10\nend\n",
+    ),
+    (
+        &["reach"],
+        ONE_FLOW,
+        b"init only 2 < x < 3\ninit only x = 11\nend\n",
+        Status::Done,
+        b"reach 1\nrounds 2\npiece only x > 2, x < 3\npiece only x > 2, x <= 10\nend\n",
+    ),
+    (
+        &["reach", "3"],
+        NO_END,
+        b"init grow x = 1\nend\n",
+        Status::Spent,
+        b"spent 3\nstate grow x = 8\n",
+    ),
+    (
+        &["reach", "1000"],
+        NO_END,
+        b"init grow x = 1\nend\n",
+        Status::Wide,
+        b"wide round 127\n",
+    ),
+    (
+        &["reach"],
+        NO_END,
+        b"end\n",
+        Status::Done,
+        b"reach 1\nrounds 1\nend\n",
+    ),
+    (
+        &["reach"],
+        b"lhg 1\nvars x\nloc a\nloc b\nloc c\nloc d\nswitch go ctl a b keep\nswitch hit env b c x' = 2*x\nswitch set pick c d 5 <= x' <= 6\nend\n",
+        b"init a x = 1\nend\n",
+        Status::Done,
+        b"reach 1\nrounds 4\npiece a x <= 1, x >= 1\npiece b x <= 1, x >= 1\npiece c x <= 2, x >= 2\npiece d x >= 5, x <= 6\nend\n",
+    ),
+    (
+        &["reach"],
+        THERMOSTAT,
+        b"init heat x = 20\ninit warm x = 20\nend\n",
+        Status::Text,
+        b"text line 15 NotHere\n",
+    ),
+    (
+        &["reach"],
+        THERMOSTAT,
+        b"init heat x' = 20\nend\n",
+        Status::Text,
+        b"text line 14 NotHere\n",
+    ),
+    (
+        &["reach"],
+        b"lhg 1\nvars keep\nloc a\nend\n",
+        b"end\n",
+        Status::Text,
+        b"text line 2 NotHere\n",
     ),
 ];
 

@@ -1,7 +1,7 @@
 //! Ends that fail, texts that are cut, and texts at their limits and one past them.
 use crate::Status;
 use crate::plant_texts::{
-    NOTHING_KEPT_REPORT, THERMOSTAT, THERMOSTAT_CONTROLLER, THERMOSTAT_REPORT,
+    NOTHING_KEPT_REPORT, ONE_FLOW, THERMOSTAT, THERMOSTAT_CONTROLLER, THERMOSTAT_REPORT,
 };
 use crate::tests::{AMPLE, NEVER, SYNTH, run, run_over, sink_for, source_over};
 use lhg_io::INPUT_LIMIT;
@@ -223,6 +223,23 @@ fn rings(rt: &impl Abort, alloc: Global) -> Result<(), Fail> {
     Ok(())
 }
 
+// First states in one line more than a location may have pieces.
+const MANY_FIRST_STATES: Repeated = Repeated {
+    before: ONE_FLOW,
+    part: b"init only x = 3\n",
+    numbered: false,
+    behind: b"end\n",
+};
+
+// They are too many.
+fn many_first_states(rt: &impl Abort, alloc: Global) -> Result<(), Fail> {
+    let input = with_parts(alloc, &MANY_FIRST_STATES, 4_097)?;
+    let (ended, written) = run(alloc, &["reach"], &input)?;
+    assert_eq!(rt; ended, Status::Lists);
+    assert_eq!(rt; written.as_slice(), b"pieces round 0\n".as_slice());
+    Ok(())
+}
+
 // All of these, and a sink that has no room left.
 #[test]
 fn hostile(rt: HostRuntime) -> Result<(), Fail> {
@@ -235,5 +252,6 @@ fn hostile(rt: HostRuntime) -> Result<(), Fail> {
     cut_texts(&rt, alloc)?;
     longest_inputs(&rt, alloc)?;
     limits(&rt, alloc)?;
-    rings(&rt, alloc)
+    rings(&rt, alloc)?;
+    many_first_states(&rt, alloc)
 }

@@ -1,14 +1,16 @@
 // What answers what is asked for of an input?
-ghost use Rattle.std.specs.Prelude.{◌≡◌, ◌≤◌, ◌<◌, Some, length, IfOk, IfErr, ◌⊎◌};
+ghost use Rattle.std.specs.Prelude.{◌≡◌, ◌≤◌, ◌<◌, length, IfOk, IfErr, ◌⊎◌};
 ghost use Rattle.lhg_io.specs.Faults.{Rose};
-ghost use Rattle.lhg_cli.specs.Answer.{IsAnswerTo, IsReadToEnd};
+ghost use Rattle.lhg_cli.specs.Answer.{AnswersBytes, IsAnswerTo, IsReadToEnd};
 ghost use Rattle.lhg_cli.specs.Words.{NeedsInput, HasRounds};
 
 use crate::Status;
 use crate::answers::too_long;
 use crate::checking::checked;
 use crate::explaining::explained;
+use crate::lazing::lazy_of;
 use crate::migrating::migrated;
+use crate::reaching::reach_of;
 use crate::request::Request;
 use crate::running::ran;
 use crate::solving::Answer;
@@ -21,7 +23,7 @@ fn answer_of(alloc: Global, request: Request, bytes: &[u8]) -> Result<Answer, Al
     requires bytes { length bytes.now ≤ INPUT_LIMIT }
     requires input { NeedsInput request }
     requires rounds { HasRounds request }
-    ensures { IfOk result (λ a. IsAnswerTo request (Some bytes.now) a.status a.text.items) }
+    ensures { IfOk result (λ a. AnswersBytes request bytes.now a.status a.text.items) }
 {
     match request {
         Request::Synth(rounds) => synth_of(alloc, rounds, bytes),
@@ -29,6 +31,8 @@ fn answer_of(alloc: Global, request: Request, bytes: &[u8]) -> Result<Answer, Al
         Request::Run => ran(alloc, bytes),
         Request::Explain(rounds) => explained(alloc, rounds, bytes),
         Request::Migrate => migrated(alloc, bytes),
+        Request::Lazy(rounds) => lazy_of(alloc, rounds, bytes),
+        Request::Reach(rounds) => reach_of(alloc, rounds, bytes),
         Request::Gen(_) => unreachable!(),
     }
 }

@@ -11,7 +11,7 @@ ghost use Rattle.lhg_check.specs.Check.{bad_guard};
 ghost use Rattle.lhg_check.specs.CheckLaws.{IsExactVerdict};
 ghost use Rattle.lhg_check.specs.Views.{plain_verdict};
 ghost use Rattle.lhg_text.specs.TraceText.{IsPlacedState};
-ghost use Rattle.lhg_cli.specs.Verdict.{controller_in, check_of, KeepsWritten, verdict_text, status_of, IsPlacedVerdict, TellsHalt};
+ghost use Rattle.lhg_cli.specs.Verdict.{controller_in, check_of, KeepsWritten, verdict_text, status_of, IsPlacedVerdict};
 
 use crate::Status;
 use crate::solving::Answer;
@@ -95,25 +95,4 @@ pub fn verdict_answer(alloc: Global, plant: &Plant, verdict: &Verdict) -> Result
         _ => Status::No,
     };
     Ok(Answer { status, text })
-}
-
-/// The answer where the work of the check passes a limit.
-pub fn halted(alloc: Global, halt: Halt) -> Result<Answer, AllocError>
-    ensures { IfOk result (λ a. TellsHalt halt a.status a.text.items) }
-{
-    match halt {
-        Halt::Wide => Ok(Answer {
-            status: Status::Wide,
-            text: Vec::from_slice(alloc, b"wide check\n")?,
-        }),
-        Halt::Rows => Ok(Answer {
-            status: Status::Lists,
-            text: Vec::from_slice(alloc, b"rows check\n")?,
-        }),
-        Halt::Pieces => Ok(Answer {
-            status: Status::Lists,
-            text: Vec::from_slice(alloc, b"pieces check\n")?,
-        }),
-        Halt::Memory => Err(AllocError),
-    }
 }

@@ -12,9 +12,11 @@ mod game_tests;
 mod hostile_tests;
 mod inputs;
 mod judging;
+mod lazing;
 mod migrating;
 #[cfg(test)]
 mod plant_texts;
+mod reaching;
 mod refusing;
 #[cfg(test)]
 mod region_tests;

@@ -20,6 +20,10 @@ pub(crate) const THERMOSTAT_CONTROLLER: &[u8] =
 pub(crate) const THERMOSTAT_REPORT: &[u8] =
     b"report 1\nrounds 1\ncontroller 1\npiece heat x >= 18, x <= 22\npiece cool x >= 18, x <= 22\nguard off x >= 18, x <= 22\nguard on x >= 18, x <= 22\nend\nend\n";
 
+// What it has where it is to switch at the last moment alone.
+pub(crate) const THERMOSTAT_LAZY: &[u8] =
+    b"lazy cut\ncontroller 1\npiece heat x >= 18, x <= 22\npiece cool x >= 18, x <= 22\nguard off x >= 22, x <= 22\nguard on x >= 18, x <= 18\nend\n";
+
 // A thermostat that can be switched off too late only, so that no temperature is kept.
 pub(crate) const DEPENDENCE: &[u8] =
     b"lhg 1\nvars x\nloc heat\ninv 0 <= x <= 40\nflow 1 <= x <= 2\nsafe 18 <= x <= 22\nloc cool\ninv 0 <= x <= 40\nflow -2 <= x <= -1\nsafe 18 <= x <= 22\nswitch off ctl heat cool x >= 23, keep\nswitch on ctl cool heat keep\nend\n";

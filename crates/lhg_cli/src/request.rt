@@ -13,6 +13,11 @@ pub enum Request {
     Explain(u32),
     /// The controller of the input, in the latest version of its text.
     Migrate,
+    /// A controller for the plant of the input that switches at the rim of its region alone, where such a one is valid, within so many
+    /// rounds.
+    Lazy(u32),
+    /// Where the plant of the input can get from its first states, within so many rounds.
+    Reach(u32),
     /// A summary of the generated plant with so many locations.
     Gen(u32),
 }

@@ -20,7 +20,8 @@ ghost use Rattle.lhg_cli.specs.Verdict.{controller_in};
 ghost use Rattle.lhg_cli.specs.RunAnswer.{IsRunOutcome, IsRan, IsWithinRun, IsSureRun};
 
 use crate::Status;
-use crate::judging::{halted, judge, verdict_answer};
+use crate::answers::halted;
+use crate::judging::{judge, verdict_answer};
 use crate::refusing::refused;
 use crate::solving::Answer;
 use itoa::Buffer;
@@ -119,7 +120,7 @@ fn run_written(
             Verdict::Valid => run_over(alloc, plant, &found.controller, start, log),
             other => verdict_answer(alloc, plant, other),
         },
-        Err(halt) => halted(alloc, halt),
+        Err(halt) => halted(alloc, halt, b"check"),
     }
 }
 

@@ -3,14 +3,16 @@ ghost use Rattle.std.specs.Prelude.{◌≤◌};
 
 use crate::plant_texts::{
     DEPENDENCE, DEPENDENCE_REPORT, NO_END, NOTHING_KEPT_REPORT, ONE_FLOW, OPEN_EDGE, PICKED_RESULT,
-    PLAIN, RUN_KEPT_REPORT, RUN_LOST_REPORT, STEP, THERMOSTAT, THERMOSTAT_REPORT, TIE_OPEN,
+    PLAIN, RUN_KEPT_REPORT, RUN_LOST_REPORT, STEP, THERMOSTAT, THERMOSTAT_LAZY, THERMOSTAT_REPORT,
+    TIE_OPEN,
 };
 use crate::{Status, lhg};
 use lhg_io::{MemSink, MemSource};
 use std::alloc::{AllocError, Global};
 use std::test::Fail;
 
-const USAGE: &[u8] = b"usage: lhg synth [N] | check | run | explain [N] | gen K | migrate\n";
+const USAGE: &[u8] =
+    b"usage: lhg synth [N] | check | run | explain [N] | gen K | migrate | lazy [N] | reach [N]\n";
 
 pub(crate) const SYNTH: &[&str] = &["synth"];
 
@@ -69,7 +71,7 @@ pub(crate) fn run(alloc: Global, words: &[&str], input: &[u8]) -> Result<(Status
 }
 
 // What is asked of plants, with the answers.
-pub(crate) const PLANTS: [(&[&str], &[u8], Status, &[u8]); 28] = [
+pub(crate) const PLANTS: [(&[&str], &[u8], Status, &[u8]); 36] = [
     (
         &["synth"],
         PLAIN,
@@ -208,10 +210,48 @@ pub(crate) const PLANTS: [(&[&str], &[u8], Status, &[u8]); 28] = [
         Status::Lists,
         b"rows round 1\n",
     ),
+    (&["lazy"], THERMOSTAT, Status::Done, THERMOSTAT_LAZY),
+    (&["lazy", "1"], THERMOSTAT, Status::Done, THERMOSTAT_LAZY),
+    (
+        &["lazy"],
+        PICKED_RESULT,
+        Status::Done,
+        b"lazy cut\ncontroller 1\npiece run x >= 0, x <= 8\npiece rest x >= 0, x <= 5\nguard go x >= 8, x <= 8\nend\n",
+    ),
+    (
+        &["lazy"],
+        OPEN_EDGE,
+        Status::Done,
+        b"lazy full\ncontroller 1\npiece run x >= 0, x < 8\npiece rest x >= 0, x <= 10\nguard go x >= 7, x < 8\nend\n",
+    ),
+    (
+        &["lazy"],
+        b"lhg 1\nvars x\nloc heat\ninv 0 <= x <= 40\nflow 1 <= x <= 2\nsafe 18 <= x < 22\nloc cool\ninv 0 <= x <= 40\nflow -2 <= x <= -1\nsafe 18 <= x <= 22\nswitch off ctl heat cool keep\nswitch on ctl cool heat keep\nend\n",
+        Status::Done,
+        b"lazy full\ncontroller 1\npiece heat x >= 18, x < 22\npiece cool x >= 18, x <= 22\nguard off x >= 18, x < 22\nguard on x >= 18, x < 22\nend\n",
+    ),
+    (
+        &["lazy", "2"],
+        DEPENDENCE,
+        Status::Spent,
+        b"spent 2\nstate cool x = 18\n",
+    ),
+    (
+        &["lazy"],
+        b"lhg 1\nvars x\nloc only\nsafe 170141183460469231731687303715884105727*x <= 1/3\nend\n",
+        Status::Wide,
+        b"wide round 0\n",
+    ),
+    (
+        &["lazy"],
+        b"lhg 1\nvars x\nloc run\ninv 0 <= x <= 10\nflow x = 1\nsafe 1/9999999999999999999 < x < 9999999999999999997/9999999999999999998\nloc rest\ninv 0 <= x <= 10\nsafe all\nswitch go ctl run rest keep\nend\n",
+        Status::Wide,
+        b"wide lazy\n",
+    ),
 ];
 
 // What is no plant, with the answers.
-const TEXTS: [(&[&str], &[u8], Status, &[u8]); 9] = [
+const TEXTS: [(&[&str], &[u8], Status, &[u8]); 10] = [
     (
         &["synth"],
         b"lhg 1\nvars x\nloc heat\ninv 0 <= x <= 40\nflow 1 <= x <= 2\nsafe 18 <= x <= 22\nloc cool\ninv 0 <= x <= 40\nflow -2 <= x <= -1\nsafe 18 <= x <= 22\nswitch off ctl heat",
@@ -249,6 +289,7 @@ const TEXTS: [(&[&str], &[u8], Status, &[u8]); 9] = [
         b"text line 2 BadByte\n",
     ),
     (&["synth"], b"", Status::Text, b"text line 1 NotHere\n"),
+    (&["lazy"], b"", Status::Text, b"text line 1 NotHere\n"),
     (
         &["synth"],
         b"lhg 1\nvars x\nloc only\nend\n\n# the end\nend\n",
@@ -311,7 +352,7 @@ fn generated(rt: HostRuntime) -> Result<(), Fail> {
     Ok(())
 }
 
-const OTHER_WORDS: [&[&str]; 17] = [
+const OTHER_WORDS: [&[&str]; 20] = [
     &[],
     &["check", "1"],
     &["migrate", "2"],
@@ -329,6 +370,9 @@ const OTHER_WORDS: [&[&str]; 17] = [
     &["gen", "01"],
     &["gen", "65"],
     &["gen", "3", "4"],
+    &["lazy", "0"],
+    &["lazier"],
+    &["reach", "1001"],
 ];
 
 #[test]

@@ -4,11 +4,13 @@ ghost use Rattle.std.specs.Io.KnownBytes.{Appends};
 ghost use Rattle.lhg_io.specs.Faults.{Rose};
 ghost use Rattle.lhg_gen.specs.GeneratedPlant.{generated_plant};
 ghost use Rattle.lhg_cli.specs.Answer.{IsAnswer, IsReadToEnd, IsAnswered, IsTextFor, IsSolvable, IsUsedUp};
+ghost use Rattle.lhg_cli.specs.LazyAnswer.{IsLazySolvable};
+ghost use Rattle.lhg_cli.specs.ReachAnswer.{IsExplorable, IsEndless};
 ghost use Rattle.lhg_cli.specs.RunAnswer.{IsRunnable, IsUnrunnable, IsSureRun};
 ghost use Rattle.lhg_cli.specs.Settling.{IsWithin};
 ghost use Rattle.lhg_cli.specs.StateAnswer.{IsExplainable, IsSureStatus};
 ghost use Rattle.lhg_cli.specs.Verdict.{IsValidInput, IsInvalidInput};
-ghost use Rattle.lhg_cli.specs.Words.{Asks, AsksSynth, AsksExplain, AsksGen, AreKnown, AskForInput, most_rounds};
+ghost use Rattle.lhg_cli.specs.Words.{Asks, AsksSynth, AsksExplain, AsksLazy, AsksReach, AsksGen, AreKnown, AskForInput, most_rounds};
 
 use crate::Status;
 use crate::answers::usage;
@@ -96,6 +98,18 @@ pub fn lhg<S: Source, K: Sink>(
     // what becomes of a state is told, unless each round within the budget removes a state and the asked one is in the last
     ensures explained { (n : ℕ) → AsksExplain (map (λ w. string_bytes w) words.now) n → IfSome (S.left source.old) (λ bytes. (t : IsExplainable n bytes)
         → ¬ Rose (S.faults source.old) (S.faults source.new) → ¬ Rose (K.faults sink.old) (K.faults sink.new) → IsSureStatus n t.input.value result ⊎ (result ≡ Status.Memory)) }
+    // a plant has its controller, whose guards are cut to the rim where that is valid, where it has a report and the work behind the rounds
+    // stays within its limits too; it has a state of the last round, where each round within the budget removes a state
+    ensures lazy { (n : ℕ) → AsksLazy (map (λ w. string_bytes w) words.now) n → IfSome (S.left source.old) (λ bytes. IsLazySolvable bytes n
+        → ¬ Rose (S.faults source.old) (S.faults source.new) → ¬ Rose (K.faults sink.old) (K.faults sink.new) → (result ≡ Status.Done) ⊎ (result ≡ Status.Memory)) }
+    ensures lazy_used_up { (n : ℕ) → AsksLazy (map (λ w. string_bytes w) words.now) n → IfSome (S.left source.old) (λ bytes. IsUsedUp bytes n
+        → ¬ Rose (S.faults source.old) (S.faults source.new) → ¬ Rose (K.faults sink.old) (K.faults sink.new) → (result ≡ Status.Spent) ⊎ (result ≡ Status.Memory)) }
+    // where a plant can get from its first states is told, where some level within the budget adds nothing and the calculus stays within its limits;
+    // there is a state of the last level, where each level within the budget adds a state
+    ensures reach { (n : ℕ) → AsksReach (map (λ w. string_bytes w) words.now) n → IfSome (S.left source.old) (λ bytes. IsExplorable n bytes
+        → ¬ Rose (S.faults source.old) (S.faults source.new) → ¬ Rose (K.faults sink.old) (K.faults sink.new) → (result ≡ Status.Done) ⊎ (result ≡ Status.Memory)) }
+    ensures reach_endless { (n : ℕ) → AsksReach (map (λ w. string_bytes w) words.now) n → IfSome (S.left source.old) (λ bytes. IsEndless n bytes
+        → ¬ Rose (S.faults source.old) (S.faults source.new) → ¬ Rose (K.faults sink.old) (K.faults sink.new) → (result ≡ Status.Spent) ⊎ (result ≡ Status.Memory)) }
     // where the sink does not fail, a generated plant has its summary, where the calculus stays within its limits; unless memory runs out
     ensures generated { (k : ℕ) → AsksGen (map (λ w. string_bytes w) words.now) k → IsWithin (generated_plant k) most_rounds
         → ¬ Rose (K.faults sink.old) (K.faults sink.new) → (result ≡ Status.Done) ⊎ (result ≡ Status.Memory) }

@@ -38,6 +38,12 @@ fn with_number(word: &str, number: &str) -> Option<Request>
     } else if word == "explain" {
         let rounds = number_up_to(MOST_ROUNDS, number)?;
         Some(Request::Explain(rounds))
+    } else if word == "lazy" {
+        let rounds = number_up_to(MOST_ROUNDS, number)?;
+        Some(Request::Lazy(rounds))
+    } else if word == "reach" {
+        let rounds = number_up_to(MOST_ROUNDS, number)?;
+        Some(Request::Reach(rounds))
     } else if word == "gen" {
         let locations = number_up_to(MOST_GENERATED, number)?;
         Some(Request::Gen(locations))
@@ -61,6 +67,10 @@ fn alone(word: &str) -> Option<Request>
         Some(Request::Explain(USUAL_BUDGET))
     } else if word == "migrate" {
         Some(Request::Migrate)
+    } else if word == "lazy" {
+        Some(Request::Lazy(USUAL_BUDGET))
+    } else if word == "reach" {
+        Some(Request::Reach(USUAL_BUDGET))
     } else {
         None
     }

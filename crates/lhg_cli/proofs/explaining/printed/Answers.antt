@@ -1,6 +1,6 @@
 use Rattle.std.proofs.Common.{refl}
 use Rattle.lhg_plant.specs.Views.{plain_plant, plain_state}
-use Rattle.lhg_explain.specs.Views.{plain_escape}
+use Rattle.lhg_play.specs.Views.{plain_escape}
 use Rattle.lhg_cli.proofs.LostSteps.{escape_moves, escape_exit}
 use Rattle.lhg_cli.proofs.explaining.printed.Goals as goal
 

@@ -1,13 +1,19 @@
-use Rattle.lhg_cli.specs.Answer.{IsSolvable, IsTextFor, IsUsedUp}
 use Rattle.std.proofs.Common.{◌≡◌, ◌⊎◌}
+use Rattle.lhg_cli.specs.Answer.{IsSolvable, IsTextFor, IsUsedUp}
+use Rattle.lhg_cli.specs.LazyAnswer.{IsLazySolvable}
+use Rattle.lhg_cli.specs.ReachAnswer.{IsExplorable, IsEndless}
 use Rattle.lhg_cli.specs.RunAnswer.{IsRunnable, IsUnrunnable, IsSureRun}
 use Rattle.lhg_cli.specs.StateAnswer.{IsExplainable, IsSureStatus}
 use Rattle.lhg_cli.specs.Verdict.{IsValidInput, IsInvalidInput}
 use Rattle.lhg_cli.specs.declared.status.Status.TheVariants as status
 use Rattle.lhg_cli.specs.declared.request.Request.TheVariants.{Migrate}
 use Rattle.lhg_cli.proofs.AnswerSteps.{faulted, faulted_for}
-use Rattle.lhg_cli.proofs.Complete.{complete, used_up, refused, valid, invalid, migrated, ran, unrun, explained, generated}
+use Rattle.lhg_cli.proofs.Complete.{complete, used_up, refused, valid, invalid, migrated, ran, unrun, explained, lazy, lazy_used_up, reach, reach_endless, generated}
+use Rattle.lhg_cli.proofs.ReadNever.{never_read}
 use Rattle.lhg_cli.proofs.top.lhg.Goals as goal
+
+pub returns-in-Ok-write_all-clause-read : goal.returns-in-Ok-write_all-clause-read
+returns-in-Ok-write_all-clause-read g c = λ e. absurd (never_read _ _ _ _ c.in-Ok.ensures.ok e)
 
 pub returns-in-Ok-write_all-clause-complete : goal.returns-in-Ok-write_all-clause-complete
 returns-in-Ok-write_all-clause-complete g c = complete _ _ _ _ _ _ c.in-Ok.ensures.ok
@@ -35,6 +41,18 @@ returns-in-Ok-write_all-clause-unrun g c = unrun _ _ _ _ _ _ c.in-Ok.ensures.ok
 
 pub returns-in-Ok-write_all-clause-explained : goal.returns-in-Ok-write_all-clause-explained
 returns-in-Ok-write_all-clause-explained g c = explained _ _ _ _ _ _ c.in-Ok.ensures.ok
+
+pub returns-in-Ok-write_all-clause-lazy : goal.returns-in-Ok-write_all-clause-lazy
+returns-in-Ok-write_all-clause-lazy g c = lazy _ _ _ _ _ _ c.in-Ok.ensures.ok
+
+pub returns-in-Ok-write_all-clause-lazy_used_up : goal.returns-in-Ok-write_all-clause-lazy_used_up
+returns-in-Ok-write_all-clause-lazy_used_up g c = lazy_used_up _ _ _ _ _ _ c.in-Ok.ensures.ok
+
+pub returns-in-Ok-write_all-clause-reach : goal.returns-in-Ok-write_all-clause-reach
+returns-in-Ok-write_all-clause-reach g c = reach _ _ _ _ _ _ c.in-Ok.ensures.ok
+
+pub returns-in-Ok-write_all-clause-reach_endless : goal.returns-in-Ok-write_all-clause-reach_endless
+returns-in-Ok-write_all-clause-reach_endless g c = reach_endless _ _ _ _ _ _ c.in-Ok.ensures.ok
 
 pub returns-in-Ok-write_all-clause-generated : goal.returns-in-Ok-write_all-clause-generated
 returns-in-Ok-write_all-clause-generated g c = λ k asked within calm. generated _ _ _ _ c.in-Ok.ensures.ok k asked within
@@ -69,3 +87,15 @@ returns-in-Ok-clause-explained g c = λ n asked. faulted_for _ (IsExplainable n)
 
 pub returns-in-Ok-clause-generated : goal.returns-in-Ok-clause-generated
 returns-in-Ok-clause-generated g c = λ k asked within calm. absurd (calm c.in-Err-write_all.ensures.fault)
+
+pub returns-in-Ok-clause-lazy : goal.returns-in-Ok-clause-lazy
+returns-in-Ok-clause-lazy g c = λ n asked. faulted _ _ (λ bytes. IsLazySolvable bytes n) _ c.in-Err-write_all.ensures.fault
+
+pub returns-in-Ok-clause-lazy_used_up : goal.returns-in-Ok-clause-lazy_used_up
+returns-in-Ok-clause-lazy_used_up g c = λ n asked. faulted _ _ (λ bytes. IsUsedUp bytes n) _ c.in-Err-write_all.ensures.fault
+
+pub returns-in-Ok-clause-reach : goal.returns-in-Ok-clause-reach
+returns-in-Ok-clause-reach g c = λ n asked. faulted _ _ (λ bytes. IsExplorable n bytes) _ c.in-Err-write_all.ensures.fault
+
+pub returns-in-Ok-clause-reach_endless : goal.returns-in-Ok-clause-reach_endless
+returns-in-Ok-clause-reach_endless g c = λ n asked. faulted _ _ (λ bytes. IsEndless n bytes) _ c.in-Err-write_all.ensures.fault
