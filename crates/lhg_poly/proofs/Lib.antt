@@ -1,2 +1,3 @@
 pub mod AskSteps
+pub mod ClashSteps
 pub mod MakeSteps

@@ -9,7 +9,7 @@ use Rattle.lhg_row.specs.Trim.{trim}
 use Rattle.lhg_row.specs.Eliminate.{is_empty}
 use Rattle.lhg_row.specs.Pieces.{thin_at, thin, made, make}
 use Rattle.lhg_row.specs.MakeLaws.{thin_at-is, thin_at-length}
-use Rattle.lhg_row.proofs.Steps.{rest_step, step_part}
+use Rattle.lhg_num.specs.PartLaws.{rest_step, step_part}
 
 -- ---- thin
 -- the rows that are left before those from place i on were asked for, and that all have one width

@@ -2,6 +2,7 @@
 #![tactic(auto)]
 
 mod asking;
+mod clashing;
 mod entailing;
 pub mod laws;
 mod making;

@@ -8,6 +8,7 @@ ghost use Rattle.lhg_row.specs.HasValue.{IsEmptiness};
 ghost use Rattle.lhg_row.specs.PieceFacts.{IsMeet, IsClosureOf};
 ghost use Rattle.lhg_row.specs.Pieces as calculus;
 
+use crate::clashing::clash;
 use crate::entailing::have_no_point;
 use crate::making::make;
 use crate::polys::Poly;
@@ -36,6 +37,9 @@ pub fn are_apart<N: Scalar>(alloc: Global, p: &Poly<N>, q: &Poly<N>) -> Result<b
     ensures calculus { IsHaltedByRows result (calculus.are_empty N.arithmetic p.now.width (p.now.lines ++ q.now.lines)) (λ b. b) }
     ensures points { IfOk result (IsEmptiness p.now.width (p.now.lines ++ q.now.lines)) }
 {
+    if clash(p.rows(), q.rows()) {
+        return Ok(true);
+    }
     let rows = rows_of_both(alloc, p, q)?;
     have_no_point(alloc, p.vars(), rows)
 }

@@ -1,21 +1,12 @@
 -- What is left of the value of a row after one product?
-use Rattle.std.proofs.Common.{◌≡◌, ℕ, zero, suc, ◌+◌, ◌<◌, List, [], ◌∷◌, length, map, drop, get_or, refl, sym, ◌∙◌, subst, arith, add-one, Bool, true, false, ◌||◌, Result, Ok, Err}
-use Rattle.std.specs.Result.{IsErr, IsErrAnd}
-use Rattle.lhg_num.specs.Halting.{IsWideBy, IsHaltedByWide, IsHaltedByRows}
-use Rattle.lhg_num.specs.declared.refusals.Halt.{Halt}
-use Rattle.lhg_num.proofs.Halted.{rows_from_wide, part_halts_rows}
+use Rattle.std.proofs.Common.{◌≡◌, ℕ, ◌+◌, ◌<◌, List, ◌∷◌, length, map, drop, get_or, subst}
 use Rattle.lhg_math.specs.Number.{Number}
-use Rattle.lhg_math.specs.Tests.{false_true}
 use Rattle.lhg_num.specs.Arithmetic.{Arithmetic}
-use Rattle.lhg_num.specs.Marked.{Marked, done, and_then, IsRest}
-use Rattle.lhg_num.specs.MarkedLaws.{IsPart, rest_rest, rest_part, and_then-rest, and_then-part}
+use Rattle.lhg_num.specs.Marked.{Marked, IsRest}
+use Rattle.lhg_num.specs.MarkedLaws.{IsPart}
 use Rattle.lhg_num.specs.PartLaws.{rest_step, step_part}
 use Rattle.lhg_row.specs.Values.{plus_product, marked_value}
-pub use Rattle.lhg_num.specs.PartLaws.{rest_step, step_part, done-part, then-part, rest_is_part}
-pub use Rattle.lhg_num.specs.AnswerLaws.{wide_on}
-pub use Rattle.lhg_num.proofs.Halted.{rows_on_wide}
 use Rattle.lhg_math.specs.ListFacts.{drop-map_cons}
-pub use Rattle.lhg_math.specs.ListFacts.{drop_cons, drop-map_cons}
 
 -- ---- the value of a row at a point
 module _ {N : Type 0} (m : N → Number) (a : Arithmetic) (s : N) (cs xs : List N) (i : ℕ) (c x : N) (c_is : c ≡ get_or cs i c) (x_is : x ≡ get_or xs i x) (in_cs : i < length cs) (in_xs : i < length xs)

@@ -1,6 +1,7 @@
 pub mod Bars
 pub mod BoundLaws
 pub mod CalculusLaws
+pub mod Codes
 pub mod Column
 pub mod ColumnLaws
 pub mod Combination

@@ -2,6 +2,7 @@
 #![tactic(auto)]
 
 pub mod calculus_laws;
+mod coding;
 mod copies;
 mod forms;
 pub mod laws;

@@ -11,6 +11,7 @@ ghost use Rattle.lhg_row.specs.Constant as constant;
 ghost use Rattle.lhg_row.specs.Width.{AllWide, HasWidth};
 ghost use Rattle.lhg_row.specs.Trim as calculus;
 
+use crate::coding::{Coded, are_apart};
 use crate::rows::{Kind, Row};
 use crate::scaling::{Sense, agree, lead, lead_size, stricter, times};
 use crate::systems::System;
@@ -59,22 +60,33 @@ fn gathered<N: Scalar>(alloc: Global, rows: Vec<Row<N>>) -> Result<Vec<Row<N>>, 
     for row in rows {
         add(&mut kept, row)?;
     }
-    Ok(kept)
+    uncoded(alloc, kept)
+}
+
+// The rows without their codes.
+fn uncoded<N: Scalar>(alloc: Global, rows: Vec<Coded<N>>) -> Result<Vec<Row<N>>, Halt>
+    ensures { IsHaltedByMemory result (done rows.items) (λ v. v.items) }
+{
+    let mut out = Vec::with_capacity(alloc, rows.len())?;
+    for coded in rows {
+        out.push(coded.row)?;
+    }
+    Ok(out)
 }
 
 // Puts a row among the kept ones, unless it is true.
-fn add<N: Scalar>(kept: &mut Vec<Row<N>>, row: Row<N>) -> Result<(), Halt>
+fn add<N: Scalar>(kept: &mut Vec<Coded<N>>, row: Row<N>) -> Result<(), Halt>
     requires { AllWide (length row.coefs) kept.old.items }
     ensures { IsHaltedByWide result (calculus.gathered N.arithmetic kept.old.items (filter (λ r. not (constant.is_true r)) (row ∷ []))) (λ _. kept.new.items) }
 {
     if is_true(&row) {
         return Ok(());
     }
-    place(kept, row)
+    place(kept, Coded::of(row))
 }
 
 // Puts a row among the kept ones: in the place of the first of its direction, else at the end.
-fn place<N: Scalar>(kept: &mut Vec<Row<N>>, row: Row<N>) -> Result<(), Halt>
+fn place<N: Scalar>(kept: &mut Vec<Coded<N>>, row: Coded<N>) -> Result<(), Halt>
     requires { AllWide (length row.coefs) kept.old.items }
     ensures { IsHaltedByWide result (calculus.placed N.arithmetic row kept.old.items) (λ _. kept.new.items) }
 {
@@ -86,18 +98,30 @@ fn place<N: Scalar>(kept: &mut Vec<Row<N>>, row: Row<N>) -> Result<(), Halt>
 }
 
 // The place of the first kept row that has the direction of the row.
-fn place_along<N: Scalar>(kept: &[Row<N>], row: &Row<N>) -> Result<Option<usize>, Wide>
+fn place_along<N: Scalar>(kept: &[Coded<N>], row: &Coded<N>) -> Result<Option<usize>, Wide>
     requires { AllWide (length row.now.coefs) kept.now }
     ensures { IsWideBy result (calculus.place_along N.arithmetic row.now 0 kept.now) (λ o. o) }
 {
-    let g = lead_size(row);
+    let g = row.lead_size();
     for i in 0..kept.len() {
-        let same = same_direction(row, &g, &kept[i])?;
+        let same = have_one_direction(row, &g, &kept[i])?;
         if same {
             return Ok(Some(i));
         }
     }
     Ok(None)
+}
+
+// The same as `same_direction`, which is asked only where the codes do not tell.
+fn have_one_direction<N: Scalar>(r: &Coded<N>, g: &N, s: &Coded<N>) -> Result<bool, Wide>
+    requires same { length r.now.coefs ≡ length s.now.coefs }
+    requires size { N.meaning g.now ≡ calculus.lead_size r.now }
+    ensures { IsWideBy result (calculus.same_direction N.arithmetic r.now s.now) (λ b. b) }
+{
+    if are_apart(r, s) {
+        return Ok(false);
+    }
+    same_direction(&r.row, g, &s.row)
 }
 
 /// Whether the coefficients are the same after each row was multiplied by the size of the other's leading coefficient, which is g for r.
@@ -112,13 +136,13 @@ pub fn same_direction<N: Scalar>(r: &Row<N>, g: &N, s: &Row<N>) -> Result<bool, 
 }
 
 // Makes a kept row the tighter of it and another row of its direction.
-fn tighten<N: Scalar>(kept: &mut Row<N>, row: Row<N>) -> Result<(), Wide>
+fn tighten<N: Scalar>(kept: &mut Coded<N>, row: Coded<N>) -> Result<(), Wide>
     ensures { IsWideBy result (valued (λ o. calculus.tighter o kept.old row) (calculus.bound_order N.arithmetic row kept.old)) (λ _. kept.new) }
 {
-    let order = bound_order(&row, kept)?;
+    let order = bound_order(&row.row, &kept.row)?;
     match order {
         Ordering::Less => *kept = row,
-        Ordering::Equal => kept.kind = stricter(kept.kind, row.kind),
+        Ordering::Equal => kept.row.kind = stricter(kept.row.kind, row.row.kind),
         Ordering::Greater => {}
     }
     Ok(())

@@ -24,7 +24,7 @@ use Rattle.lhg_simplex.specs.Mixed.{refutes}
 use Rattle.lhg_simplex.specs.Verdict.{has_one, verdict}
 use Rattle.lhg_simplex.specs.declared.guesses.Guess.TheVariants.{Point}
 use Rattle.lhg_simplex.specs.Boxes.{is_single, IsBoxed, first_row, lower_bound, upper_bound, lower_of, upper_of, box_value, value_in, picked, HasValues, HasWideBounds, bound_on, lower_on, upper_on}
-use Rattle.lhg_math.specs.Interpolate.{unit-mul}
+use Rattle.lhg_math.specs.InterpolateLaws.{unit-mul}
 use Rattle.lhg_simplex.proofs.Singles.{single_lead, single_place}
 use Rattle.lhg_simplex.proofs.Edges.{IsEdge, above_is, below_is, first_is, unit_size}
 use Rattle.lhg_simplex.proofs.BoxSum.{refuted}

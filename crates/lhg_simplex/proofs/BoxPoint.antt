@@ -19,7 +19,7 @@ use Rattle.lhg_row.specs.Column.{coef_at, lower_at, upper_at}
 use Rattle.lhg_row.specs.Sample.{chosen}
 use Rattle.lhg_row.specs.BoundLaws.{over_bound, under_bound, IsAllowed, chosen-between}
 use Rattle.lhg_simplex.specs.Boxes.{first_row, lower_bound, upper_bound, lower_of, upper_of, box_value}
-use Rattle.lhg_math.specs.Interpolate.{unit-mul}
+use Rattle.lhg_math.specs.InterpolateLaws.{unit-mul}
 use Rattle.lhg_simplex.proofs.Singles.{no_zero, single_place, single_value}
 use Rattle.lhg_simplex.proofs.Edges.{IsEdge, above_is, above_some, below_is, below_some, no_lower, no_upper, none_some}
 use Rattle.lhg_simplex.proofs.BoxSum.{level_is}

@@ -13,7 +13,7 @@ use Rattle.lhg_num.specs.declared.fraction.Frac.{Frac}
 use Rattle.lhg_num.specs.FracArithmetic.{frac_arithmetic}
 use Rattle.lhg_row.specs.Piece.{PlainPiece}
 use Rattle.lhg_row.specs.System.{IsSystem}
-use Rattle.lhg_row.proofs.Steps.{drop_cons}
+use Rattle.lhg_math.specs.ListFacts.{drop_cons}
 use Rattle.lhg_simplex.specs.Boxes.{is_single, are_boxed, box_value, lower_of, upper_of, value_in, picked, HasValues, IsDecided, HasWideBounds, IsPromised}
 use Rattle.lhg_simplex.proofs.BoxLaws.{no_value-decides, values-decide, wide-bounds}
 use Rattle.lhg_simplex.proofs.Edges.{none_some}

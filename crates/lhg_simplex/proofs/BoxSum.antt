@@ -21,7 +21,7 @@ use Rattle.lhg_row.specs.Column.{coef_at, lower_at, upper_at, level_at}
 use Rattle.lhg_row.specs.Sample.{chosen}
 use Rattle.lhg_simplex.specs.Mixed.{bound_of, mixed, mixes_strict, none_negative, vanish, is_false_bound, refutes}
 use Rattle.lhg_simplex.specs.Boxes.{first_row, lower_bound, upper_bound, box_value, value_in, weight, picked}
-use Rattle.lhg_math.specs.Interpolate.{unit-mul}
+use Rattle.lhg_math.specs.InterpolateLaws.{unit-mul}
 use Rattle.lhg_simplex.proofs.Singles.{no_zero, single_same}
 use Rattle.lhg_simplex.proofs.Edges.{IsEdge, IsFirst, above_is, above_some, below_is, below_some, first_is, no_lower, no_upper, none_some}
 

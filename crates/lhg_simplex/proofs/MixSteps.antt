@@ -15,7 +15,8 @@ use Rattle.lhg_row.specs.Row.{PlainRow}
 use Rattle.lhg_row.specs.Piece.{PlainPiece}
 use Rattle.lhg_row.specs.Column.{coef_at}
 use Rattle.lhg_row.specs.Values.{plus_product, marked_value}
-use Rattle.lhg_row.proofs.Steps.{drop_cons, drop-map_cons, rest_step, step_part}
+use Rattle.lhg_math.specs.ListFacts.{drop_cons, drop-map_cons}
+use Rattle.lhg_num.specs.PartLaws.{rest_step, step_part}
 use Rattle.lhg_simplex.specs.Mixed.{is_false_bound, none_negative, mixes_strict, marked_mixed, marked_vanish}
 
 -- ---- signs of multipliers

@@ -1,6 +1,6 @@
 use Rattle.std.proofs.Common.{◌≡◌, ◌∙◌, ap, sym, true}
 use Rattle.lhg_math.specs.Number.{mul, unit}
-use Rattle.lhg_math.specs.Interpolate.{unit-mul}
+use Rattle.lhg_math.specs.InterpolateLaws.{unit-mul}
 use Rattle.lhg_math.specs.SignLaws.{same_is}
 use Rattle.lhg_math.specs.Signs.{same_number}
 use Rattle.lhg_row.proofs.scaling.times.Goals as goal

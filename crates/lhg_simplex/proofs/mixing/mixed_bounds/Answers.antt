@@ -1,6 +1,6 @@
 use Rattle.std.proofs.Common.{arith}
 use Rattle.lhg_simplex.specs.Mixed.{bound_of}
-use Rattle.lhg_row.proofs.Steps.{wide_on}
+use Rattle.lhg_num.specs.AnswerLaws.{wide_on}
 use Rattle.lhg_simplex.proofs.MixSteps.{sum-step, sum-part}
 use Rattle.lhg_simplex.proofs.mixing.mixed_bounds.Goals as goal
 

@@ -1,5 +1,5 @@
 use Rattle.std.proofs.Common.{◌∙◌, sym, map}
-use Rattle.lhg_row.proofs.Steps.{wide_on}
+use Rattle.lhg_num.specs.AnswerLaws.{wide_on}
 use Rattle.lhg_simplex.proofs.MixSteps.{vanish-part, vanish-stop, vanish-on}
 use Rattle.lhg_simplex.proofs.mixing.vanish.Goals as goal
 
