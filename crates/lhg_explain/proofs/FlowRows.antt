@@ -1,7 +1,7 @@
 -- What do the rows of a straight flow say of a flow by its end and its time?
 use Rattle.std.proofs.Common.{◌≡◌, ℕ, [], ◌∷◌, ◌++◌, length, subst}
 use Rattle.lhg_math.specs.Number.{Number, half}
-use Rattle.lhg_math.specs.Places.{half_inner}
+use Rattle.lhg_math.specs.PlacesLaws.{half_inner}
 use Rattle.lhg_num.specs.Arithmetic.{Arithmetic}
 use Rattle.lhg_row.specs.Row.{PlainPoint}
 use Rattle.lhg_row.specs.Piece.{PlainPiece, InPiece}

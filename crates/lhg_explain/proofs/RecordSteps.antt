@@ -2,7 +2,8 @@
 use Rattle.std.proofs.Common.{◌≡◌, ◌+◌, ℕ, zero, suc, true, List, [], ◌∷◌, length, slice_get, Option, Some, None, IsSomeAnd, refl, sym, ap, ◌∙◌, inl, inr, subst}
 use Rattle.lhg_math.specs.Number.{Number, lt, nought, unit}
 use Rattle.lhg_math.specs.NumberOrder.{lt_antisymm, nought_unit}
-use Rattle.lhg_math.specs.Places.{IsPlace, IsInner, start_place}
+use Rattle.lhg_math.specs.Places.{IsPlace, IsInner}
+use Rattle.lhg_math.specs.PlacesLaws.{start_place}
 use Rattle.lhg_math.specs.Tests.{AllOf, by_bool}
 use Rattle.lhg_row.specs.Row.{PlainPoint}
 use Rattle.lhg_row.specs.Piece.{PlainPiece, InPiece}

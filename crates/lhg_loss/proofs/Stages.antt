@@ -23,6 +23,7 @@ use Rattle.lhg_plant.specs.Inside.{IsRegionInside}
 use Rattle.lhg_plant.specs.Laws.{HasExactGuards}
 use Rattle.lhg_plant.specs.BackCalculus.{guards}
 use Rattle.lhg_plant.proofs.Decided.{region_decided}
+use Rattle.lhg_plant.proofs.Picks.{picks_legal}
 use Rattle.lhg_plant.proofs.Solutions.{last_solves}
 use Rattle.lhg_loss.specs.Records.{PlainRound, pieces_lost}
 use Rattle.lhg_loss.specs.Iterate.{PlainStage, PlainSolution, solved, next_round, after_round, none_lost, spent_state, solution_within}
@@ -154,8 +155,10 @@ module _ (a : PlainPlant) (i : ℕ) (s : PlainStage) (r : PlainRound) (h : IsSta
   stage_settled proper g n exact = record {
     region_is = e.next_is;
     exact = round_exact a i s r h e;
-    solution = last_solves a (record { region = r.next; guards = g }) i (s.losses ++ r.losses) (λ k side. (proper, region_inside a r.next e.next_is)) (is_last n) (λ z. ((λ k. ((round_exact a i s r h e z).0 k).0), stays_here n z)) exact (all_lost a i s r h e)
+    solution = last_solves a (record { region = r.next; guards = g }) i (s.losses ++ r.losses) (is_last n) (λ z. ((λ k. ((round_exact a i s r h e z).0 k).0), stays_here n z)) exact (all_lost a i s r h e)
         (λ loss c. (let k = all_sound a i s r h e loss c in record { round = k.round; number = k.number; true_between = k.sound_between.is_true }));
+    guards = exact;
+    picked = picks_legal a r.next proper (region_inside a r.next e.next_is);
     within = omega arith;
     counted = all_counted a i s r h e;
     sound = all_sound a i s r h e;
@@ -165,7 +168,7 @@ module _ (a : PlainPlant) (i : ℕ) (s : PlainStage) (r : PlainRound) (h : IsSta
 -- a solution within a budget is one within a larger one
 solved_more : (a : PlainPlant) (budget more : ℕ) (c : PlainController) (rounds : ℕ) (losses : List PlainLoss) → budget ≤ more → IsSolved a budget c rounds losses → IsSolved a more c rounds losses
 solved_more a budget more c rounds losses l h =
-    record { region_is = h.region_is; exact = h.exact; solution = h.solution; within = (let w = h.within in omega arith); counted = h.counted; sound = h.sound }
+    record { region_is = h.region_is; exact = h.exact; solution = h.solution; guards = h.guards; picked = h.picked; within = (let w = h.within in omega arith); counted = h.counted; sound = h.sound }
 
 -- from a stage on
 pub solves_within : (left : ℕ) (a : PlainPlant) (budget i : ℕ) (s : PlainStage) → left + i ≡ budget → 0 < budget → IsProper a → AreExactGuards a → IsStage a i s

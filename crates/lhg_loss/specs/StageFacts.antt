@@ -7,6 +7,8 @@ use Rattle.lhg_plant.specs.Region.{PlainRegion, InRegion}
 use Rattle.lhg_plant.specs.Controller.{PlainController}
 use Rattle.lhg_plant.specs.Loss.{PlainLoss}
 use Rattle.lhg_plant.specs.Sound.{IsSoundLoss}
+use Rattle.lhg_plant.specs.Choice.{IsLegalChoice}
+use Rattle.lhg_plant.specs.Pick.{picks}
 use Rattle.lhg_plant.specs.Solution.{InSomeLoss, IsSolution}
 use Rattle.lhg_plant.specs.Laws.{HasExactGuards}
 use Rattle.lhg_plant.specs.BackCalculus.{guards}
@@ -44,11 +46,14 @@ abbrev pub AreExactGuards : PlainPlant → Type 0
 AreExactGuards a = (region : PlainRegion) → IsRegion a region → HasExactGuards a (record { region = region; guards = (guards a region).value })
 
 -- the controller, the number of rounds and the records solve the game; the region is the round of this number, which is at most the
--- budget, and the records are sound and are numbered from 1
+-- budget; the guards are the states that each switch keeps in it, and what the calculus picks there is a legal choice; and the
+-- records are sound and are numbered from 1
 pub record IsSolved (a : PlainPlant) (budget : ℕ) (c : PlainController) (rounds : ℕ) (losses : List PlainLoss) : Type 0 where
   pub region_is : IsRegion a c.region
   pub exact : (s : PlainState) → InRegion a c.region s ↔ InRound a rounds s
   pub solution : IsSolution a c rounds losses
+  pub guards : HasExactGuards a c
+  pub picked : IsLegalChoice a c.region (picks a c.region)
   pub within : rounds ≤ budget
   pub counted : AreCounted losses
   pub sound : (loss : PlainLoss) → Contains losses loss → IsSoundLoss a losses loss

@@ -6,6 +6,7 @@ pub mod Gcd
 pub mod GcdLemmas
 pub mod Integers
 pub mod Interpolate
+pub mod InterpolateLaws
 pub mod Inverses
 pub mod Laws
 pub mod ListFacts
@@ -15,6 +16,7 @@ pub mod NumberCode
 pub mod NumberOrder
 pub mod NumberRing
 pub mod Places
+pub mod PlacesLaws
 pub mod Products
 pub mod Quotients
 pub mod Reduce

@@ -5,8 +5,9 @@ use Rattle.lhg_math.specs.Represents.{number_ext}
 use Rattle.lhg_math.specs.Number.{Number, add, mul, neg, sub, lt, nought, unit, half, whole, ratio, ratio_suc}
 use Rattle.lhg_math.specs.NumberRing.{nought-add, neg-mul, nought-mul}
 use Rattle.lhg_math.specs.NumberOrder.{nought_unit, lt_irrefl, lt_asym, neg-lt_nought}
-use Rattle.lhg_math.specs.Interpolate.{interpolate, unit-mul}
-use Rattle.lhg_math.specs.Places.{end_place}
+use Rattle.lhg_math.specs.Interpolate.{interpolate}
+use Rattle.lhg_math.specs.InterpolateLaws.{unit-mul}
+use Rattle.lhg_math.specs.PlacesLaws.{end_place}
 use Rattle.lhg_row.specs.Row.{PlainPoint}
 use Rattle.lhg_row.specs.Piece.{InPiece}
 use Rattle.lhg_motion.specs.Segment.{along}

@@ -6,8 +6,9 @@ use Rattle.lhg_math.specs.Represents.{number_ext}
 use Rattle.lhg_math.specs.Number.{Number, add, mul, neg, sub, lt, nought, unit, half, whole, ratio, ratio_suc}
 use Rattle.lhg_math.specs.NumberRing.{neg-mul, nought-add}
 use Rattle.lhg_math.specs.NumberOrder.{lt-neg, le_trans}
-use Rattle.lhg_math.specs.Interpolate.{interpolate, unit-mul}
-use Rattle.lhg_math.specs.Places.{half_inner}
+use Rattle.lhg_math.specs.Interpolate.{interpolate}
+use Rattle.lhg_math.specs.InterpolateLaws.{unit-mul}
+use Rattle.lhg_math.specs.PlacesLaws.{half_inner}
 use Rattle.lhg_math.specs.Tests.{false_true}
 use Rattle.lhg_row.specs.Row.{PlainPoint}
 use Rattle.lhg_row.specs.Piece.{InPiece, InClosure}

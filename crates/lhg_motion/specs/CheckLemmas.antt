@@ -4,8 +4,10 @@ use Rattle.std.proofs.Common.{sym, ap, ◌∙◌, inl, inr}
 use Rattle.lhg_math.specs.Number.{Number, add, neg, lt, nought, unit}
 use Rattle.lhg_math.specs.NumberRing.{add-neg}
 use Rattle.lhg_math.specs.NumberOrder.{lt-neg, lt_irrefl, lt_asym, lt_antisymm, le-lt_trans, lt-le_trans, lt-difference, difference-lt}
-use Rattle.lhg_math.specs.Interpolate.{interpolate, interpolate_less, interpolate_same, interpolate_twice}
-use Rattle.lhg_math.specs.Places.{IsPlace, inner_place, negative_at, interpolate-neg}
+use Rattle.lhg_math.specs.Interpolate.{interpolate}
+use Rattle.lhg_math.specs.InterpolateLaws.{interpolate_less, interpolate_same, interpolate_twice}
+use Rattle.lhg_math.specs.Places.{IsPlace}
+use Rattle.lhg_math.specs.PlacesLaws.{inner_place, negative_at, interpolate-neg}
 use Rattle.lhg_math.specs.Crossings.{same_sign, same_sign_self}
 use Rattle.lhg_row.specs.Row.{PlainRow, PlainPoint, value_at, holds_at, IsTight}
 use Rattle.lhg_row.specs.Piece.{PlainPiece, InPiece, InSome}

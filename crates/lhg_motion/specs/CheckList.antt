@@ -2,7 +2,8 @@
 use Rattle.std.specs.Prelude.{◌≡◌, ◌⊎◌, List, [], ◌∷◌, length}
 use Rattle.std.proofs.Common.{refl, sym, inl, inr, subst}
 use Rattle.lhg_math.specs.Number.{Number, lt, nought, unit}
-use Rattle.lhg_math.specs.Places.{IsPlace, start_place, end_place}
+use Rattle.lhg_math.specs.Places.{IsPlace}
+use Rattle.lhg_math.specs.PlacesLaws.{start_place, end_place}
 use Rattle.lhg_math.specs.Crossings.{level_of}
 use Rattle.lhg_math.specs.Tests.{by_bool}
 use Rattle.lhg_row.specs.Row.{PlainRow, PlainPoint, value_at}

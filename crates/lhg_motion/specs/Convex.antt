@@ -4,8 +4,10 @@ use Rattle.std.proofs.Common.{sym, ap, ◌∙◌}
 use Rattle.std.proofs.lemmas.Bool.{not-true}
 use Rattle.lhg_math.specs.Number.{Number, lt, nought, unit}
 use Rattle.lhg_math.specs.NumberOrder.{lt_asym}
-use Rattle.lhg_math.specs.Interpolate.{interpolate, interpolate_same}
-use Rattle.lhg_math.specs.Places.{IsPlace, IsInner, nonpos_at, negative_at, negative_left, negative_inside, start_nonpos, inner_place}
+use Rattle.lhg_math.specs.Interpolate.{interpolate}
+use Rattle.lhg_math.specs.InterpolateLaws.{interpolate_same}
+use Rattle.lhg_math.specs.Places.{IsPlace, IsInner}
+use Rattle.lhg_math.specs.PlacesLaws.{nonpos_at, negative_at, negative_left, negative_inside, start_nonpos, inner_place}
 use Rattle.lhg_math.specs.Crossings.{SameSign, one_crossing, end_nonpos}
 use Rattle.lhg_math.specs.Tests.{by_bool, false_true}
 use Rattle.lhg_row.specs.Row.{PlainRow, PlainPoint, value_at, holds_at, relaxed}

@@ -3,7 +3,7 @@ use Rattle.std.specs.Prelude.{◌≡◌, ℕ, suc, ◌+◌, ◌-◌, [], ◌∷�
 use Rattle.std.proofs.Common.{refl, sym, ap, ◌∙◌, arith, subst, append_assoc}
 use Rattle.std.proofs.lemmas.List.{length-append}
 use Rattle.lhg_math.specs.Number.{half}
-use Rattle.lhg_math.specs.Places.{half_inner}
+use Rattle.lhg_math.specs.PlacesLaws.{half_inner}
 use Rattle.lhg_num.specs.Arithmetic.{Arithmetic, IsLawful}
 use Rattle.lhg_row.specs.Row.{PlainPoint}
 use Rattle.lhg_row.specs.Piece.{PlainPiece, InPiece}

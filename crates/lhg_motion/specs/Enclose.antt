@@ -3,7 +3,8 @@ use Rattle.std.specs.Prelude.{◌≡◌, ◌⊎◌, true, List, [], ◌∷◌, l
 use Rattle.std.proofs.Common.{refl, sym, ap, ◌∙◌, inl, inr, subst}
 use Rattle.lhg_math.specs.Number.{Number, neg, lt, nought, unit}
 use Rattle.lhg_math.specs.NumberOrder.{lt-add, lt_irrefl, lt_antisymm, lt_trans}
-use Rattle.lhg_math.specs.Places.{IsPlace, start_place, end_place}
+use Rattle.lhg_math.specs.Places.{IsPlace}
+use Rattle.lhg_math.specs.PlacesLaws.{start_place, end_place}
 use Rattle.lhg_math.specs.Crossings.{Level, level_of, level_once}
 use Rattle.lhg_math.specs.NumberOrder.{nought_unit}
 use Rattle.lhg_math.specs.Tests.{by_bool}

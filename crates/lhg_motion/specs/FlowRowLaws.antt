@@ -5,7 +5,7 @@ use Rattle.std.proofs.lemmas.List.{length-append, length-replicate, length-map}
 use Rattle.lhg_math.specs.Number.{Number, add, mul, neg, lt, nought, unit}
 use Rattle.lhg_math.specs.NumberRing.{sums, mul-add, mul_left_comm, mul_comm, mul-nought, neg-mul, neg-add, add-neg, add_assoc, nought-add}
 use Rattle.lhg_math.specs.NumberOrder.{lt-mul, lt-difference, difference-lt, neg-lt_nought}
-use Rattle.lhg_math.specs.Interpolate.{unit-mul}
+use Rattle.lhg_math.specs.InterpolateLaws.{unit-mul}
 use Rattle.lhg_row.specs.Row.{PlainRow, PlainPoint, row_value, value_at, holds_at}
 use Rattle.lhg_row.specs.Piece.{PlainPiece, in_piece}
 use Rattle.lhg_row.specs.Width.{AllWide}

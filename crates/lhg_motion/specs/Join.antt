@@ -6,8 +6,10 @@ use Rattle.lhg_math.specs.NumberRing.{sub_is, sums, add_comm, add-nought, add-ne
 use Rattle.lhg_math.specs.NumberOrder.{lt-mul, lt_asym, lt-difference, mul_positive}
 use Rattle.lhg_math.specs.Quotients.{mul-quot, abs_pos_of_lt}
 use Rattle.lhg_math.specs.SumSigns.{add_positive, sum-lt}
-use Rattle.lhg_math.specs.Interpolate.{interpolate, interpolate_is, interpolate_step}
-use Rattle.lhg_math.specs.Places.{IsPlace, start_place}
+use Rattle.lhg_math.specs.Interpolate.{interpolate}
+use Rattle.lhg_math.specs.InterpolateLaws.{interpolate_is, interpolate_step}
+use Rattle.lhg_math.specs.Places.{IsPlace}
+use Rattle.lhg_math.specs.PlacesLaws.{start_place}
 use Rattle.lhg_row.specs.Row.{PlainPoint}
 use Rattle.lhg_row.specs.Piece.{PlainPiece}
 use Rattle.lhg_motion.specs.Segment.{along}

@@ -7,7 +7,8 @@ use Rattle.lhg_math.specs.NumberRing.{add_comm, add_assoc, add_left_comm, add-no
 use Rattle.lhg_math.specs.NumberOrder.{lt-mul, lt_asym, nought_unit}
 use Rattle.lhg_math.specs.Quotients.{half-half}
 use Rattle.lhg_math.specs.SumSigns.{add_positive}
-use Rattle.lhg_math.specs.Interpolate.{interpolate, interpolate_is, unit-mul}
+use Rattle.lhg_math.specs.Interpolate.{interpolate}
+use Rattle.lhg_math.specs.InterpolateLaws.{interpolate_is, unit-mul}
 use Rattle.lhg_num.specs.Arithmetic.{Arithmetic}
 use Rattle.lhg_num.specs.Marked.{each}
 use Rattle.lhg_num.specs.MarkedLaws.{each-value}

@@ -3,8 +3,10 @@ use Rattle.std.specs.Prelude.{◌≡◌, ◌⊎◌, ◌<◌, ◌≤◌, ℕ, zer
 use Rattle.std.proofs.Common.{refl, sym, ap, ◌∙◌, inl, inr, arith, subst}
 use Rattle.lhg_math.specs.Number.{Number, lt, nought, unit, mid}
 use Rattle.lhg_math.specs.NumberOrder.{lt_trans, lt_irrefl}
-use Rattle.lhg_math.specs.Interpolate.{interpolate, interpolate_start, interpolate_end, interpolate-lt}
-use Rattle.lhg_math.specs.Places.{IsInner, end_place}
+use Rattle.lhg_math.specs.Interpolate.{interpolate}
+use Rattle.lhg_math.specs.InterpolateLaws.{interpolate_start, interpolate_end, interpolate-lt}
+use Rattle.lhg_math.specs.Places.{IsInner}
+use Rattle.lhg_math.specs.PlacesLaws.{end_place}
 use Rattle.lhg_math.specs.Tests.{AllOf, false_true}
 use Rattle.lhg_row.specs.Row.{PlainRow, PlainPoint, holds_at}
 use Rattle.lhg_row.specs.Piece.{PlainPiece, InPiece, InSome}

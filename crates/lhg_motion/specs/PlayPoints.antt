@@ -3,7 +3,8 @@ use Rattle.std.specs.Prelude.{◌≡◌, ℕ, List, [], ◌∷◌, length}
 use Rattle.std.proofs.Common.{sym, ap, ◌∙◌, subst}
 use Rattle.lhg_math.specs.Number.{Number, lt, nought, unit}
 use Rattle.lhg_math.specs.NumberOrder.{lt_antisymm}
-use Rattle.lhg_math.specs.Places.{IsPlace, start_place}
+use Rattle.lhg_math.specs.Places.{IsPlace}
+use Rattle.lhg_math.specs.PlacesLaws.{start_place}
 use Rattle.lhg_math.specs.Tests.{by_bool}
 use Rattle.lhg_row.specs.Row.{PlainPoint}
 use Rattle.lhg_row.specs.Piece.{PlainPiece, InPiece, InSome}

@@ -4,7 +4,7 @@ use Rattle.std.proofs.Common.{refl, sym, ap, ◌∙◌, inl, inr, arith, subst}
 use Rattle.lhg_math.specs.Number.{Number, add, mul, neg, nought, unit, half}
 use Rattle.lhg_math.specs.NumberOrder.{lt_trans}
 use Rattle.lhg_math.specs.Interpolate.{interpolate}
-use Rattle.lhg_math.specs.Places.{end_place, half_inner, inner_place}
+use Rattle.lhg_math.specs.PlacesLaws.{end_place, half_inner, inner_place}
 use Rattle.lhg_row.specs.Row.{PlainPoint}
 use Rattle.lhg_row.specs.Piece.{PlainPiece, InPiece, InSome, InClosure}
 use Rattle.lhg_motion.specs.Segment.{along}

@@ -3,7 +3,8 @@ use Rattle.std.specs.Prelude.{◌≡◌, Bool, not, cond, List, [], ◌∷◌, l
 use Rattle.std.proofs.Common.{refl, sym, ap, ◌∙◌, arith}
 use Rattle.lhg_math.specs.Number.{Number, add, mul, neg, lt, nought, unit}
 use Rattle.lhg_math.specs.NumberOrder.{lt-difference, difference-lt}
-use Rattle.lhg_math.specs.Interpolate.{interpolate, interpolate-add, interpolate-mul, interpolate_less, interpolate_same, interpolate_start, interpolate_end, interpolate_twice}
+use Rattle.lhg_math.specs.Interpolate.{interpolate}
+use Rattle.lhg_math.specs.InterpolateLaws.{interpolate-add, interpolate-mul, interpolate_less, interpolate_same, interpolate_start, interpolate_end, interpolate_twice}
 use Rattle.lhg_math.specs.Crossings.{SameSign}
 use Rattle.lhg_row.specs.Row.{PlainRow, PlainPoint, row_value, value_at, holds_at}
 use Rattle.lhg_motion.specs.Segment.{along}

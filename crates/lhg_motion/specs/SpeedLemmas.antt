@@ -4,7 +4,7 @@ use Rattle.std.proofs.Common.{refl, sym, ap, ◌∙◌, inl, inr, subst}
 use Rattle.lhg_math.specs.Number.{Number, mul, lt, nought, unit, inverse}
 use Rattle.lhg_math.specs.NumberRing.{mul_assoc, mul_comm}
 use Rattle.lhg_math.specs.Quotients.{mul-inverse, abs_pos_of_lt}
-use Rattle.lhg_math.specs.Interpolate.{unit-mul}
+use Rattle.lhg_math.specs.InterpolateLaws.{unit-mul}
 use Rattle.lhg_math.specs.Tests.{by_bool}
 use Rattle.lhg_row.specs.Row.{PlainPoint}
 use Rattle.lhg_row.specs.Piece.{PlainPiece, InPiece}

@@ -3,7 +3,8 @@ use Rattle.std.specs.Prelude.{◌≡◌, ◌⊎◌, ℕ, List, [], ◌∷◌, �
 use Rattle.std.proofs.Common.{refl, sym, ap, ◌∙◌, inl, inr, subst}
 use Rattle.lhg_math.specs.Number.{Number, lt, nought, unit, half}
 use Rattle.lhg_math.specs.NumberOrder.{lt_antisymm}
-use Rattle.lhg_math.specs.Places.{IsPlace, IsInner, half_inner}
+use Rattle.lhg_math.specs.Places.{IsPlace, IsInner}
+use Rattle.lhg_math.specs.PlacesLaws.{half_inner}
 use Rattle.lhg_math.specs.Tests.{by_bool}
 use Rattle.lhg_row.specs.Row.{PlainPoint}
 use Rattle.lhg_row.specs.Piece.{PlainPiece, InPiece, InSome}

@@ -9,7 +9,6 @@ use Rattle.lhg_row.specs.Piece.{PlainPiece}
 use Rattle.lhg_row.specs.Members.{SomeOf, all_some}
 use Rattle.lhg_motion.specs.ReachCalculus.{Placed, numbered}
 use Rattle.lhg_math.specs.ListFacts.{all-map, all-both}
-pub use Rattle.lhg_math.specs.ListFacts.{all-map, all-both}
 
 -- from state s to state t: t is sound, has grown from s, and has what each member leaves
 pub record HasWalked {S A : Type 0} (P : S → Type 0) (G : S → S → Type 0) (Q : A → S → Type 0) (s : S) (xs : List A) (t : S) : Type 0 where

@@ -8,7 +8,7 @@ use Rattle.lhg_num.specs.Marked.{Marked, IsRest}
 use Rattle.lhg_num.specs.MarkedLaws.{IsPart, rest_self, rest_rest, and_then-rest}
 use Rattle.lhg_row.specs.Row.{PlainPoint}
 use Rattle.lhg_row.specs.Values.{plus_product, marked_value}
-use Rattle.lhg_row.proofs.Steps.{done-part, then-part}
+use Rattle.lhg_num.specs.PartLaws.{done-part, then-part}
 
 -- an answer by what is left is one by the whole
 pub rest_answers : {T E A : Type 0} (r : Result T E) (whole rest : Marked A) (f : T → A) → IsRest whole rest → IsWideBy r rest f → IsWideBy r whole f

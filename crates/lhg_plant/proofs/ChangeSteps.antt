@@ -4,7 +4,8 @@ use Rattle.lhg_math.specs.Number.{Number}
 use Rattle.lhg_num.specs.Arithmetic.{Arithmetic}
 use Rattle.lhg_num.specs.Marked.{Marked, IsRest}
 use Rattle.lhg_num.specs.MarkedLaws.{IsPart}
-use Rattle.lhg_row.proofs.Steps.{drop-map_cons, rest_step, step_part}
+use Rattle.lhg_math.specs.ListFacts.{drop-map_cons}
+use Rattle.lhg_num.specs.PartLaws.{rest_step, step_part}
 use Rattle.lhg_plant.specs.LegalTruths.{plus_change, marked_change}
 
 module _ {N : Type 0} (m : N → Number) (a : Arithmetic) (s : N) (cs xs ys : List N) (i : ℕ) (c x y : N) (c_is : c ≡ get_or cs i c) (x_is : x ≡ get_or xs i x) (y_is : y ≡ get_or ys i y)

@@ -6,8 +6,10 @@ use Rattle.lhg_math.specs.Represents.{number_ext}
 use Rattle.lhg_math.specs.Number.{Number, add, mul, neg, sub, lt, nought, unit, half, whole, ratio, ratio_suc}
 use Rattle.lhg_math.specs.NumberRing.{nought-add, add-nought, nought-mul}
 use Rattle.lhg_math.specs.NumberOrder.{lt-le_trans, nought_unit}
-use Rattle.lhg_math.specs.Interpolate.{interpolate, interpolate-lt, interpolate_start, unit-mul}
-use Rattle.lhg_math.specs.Places.{IsPlace, start_place}
+use Rattle.lhg_math.specs.Interpolate.{interpolate}
+use Rattle.lhg_math.specs.InterpolateLaws.{interpolate-lt, interpolate_start, unit-mul}
+use Rattle.lhg_math.specs.Places.{IsPlace}
+use Rattle.lhg_math.specs.PlacesLaws.{start_place}
 use Rattle.lhg_row.specs.Row.{PlainPoint, row_value}
 use Rattle.lhg_row.specs.Piece.{InPiece, InSome}
 use Rattle.lhg_row.specs.Decisions.{clash}
@@ -22,7 +24,7 @@ use Rattle.lhg_plant.specs.Legal.{LegalSwitch}
 use Rattle.lhg_plant.specs.OutBack.{Out, BackBy, Back}
 use Rattle.lhg_plant.specs.Escape.{MayPass, IsEscape, HasEscape}
 use Rattle.lhg_plant.specs.Region.{InRegion}
-use Rattle.lhg_plant.specs.Run.{target_in}
+use Rattle.lhg_plant.specs.Choice.{target_in}
 use Rattle.lhg_plant.specs.Example.{at_most, at_least, keep_up_to_four, thermostat, on_at, off_at, ThermostatFacts, tank, low_levels, TankFacts}
 use Rattle.lhg_plant.proofs.Options.{there_some}
 use Rattle.lhg_plant.proofs.Solutions.{still_solves}

@@ -11,12 +11,13 @@ use Rattle.lhg_plant.specs.Plant.{PlainPlant}
 use Rattle.lhg_plant.specs.State.{PlainState}
 use Rattle.lhg_plant.specs.Legal.{LegalFlow, LegalSwitch}
 use Rattle.lhg_plant.specs.Controller.{PlainController, IsValid}
-use Rattle.lhg_plant.specs.Run.{PlainEntry, flow_entry, env_entry, land_entry, RunPlace, resting, result_at, IsLegalEntry}
+use Rattle.lhg_plant.specs.Run.{PlainEntry, flow_entry, env_entry, land_entry, RunPlace, resting, IsLegalEntry}
+use Rattle.lhg_plant.specs.Choice.{result_at, Choice, IsLegalChoice}
 use Rattle.lhg_plant.specs.Log.{AllLegalFrom, IsLegalLog, IsIllegalFrom, IsFirstIllegal}
 use Rattle.lhg_row.specs.Decisions.{nat_decided}
 use Rattle.lhg_plant.proofs.Decided.{state_decided, region_decided}
 use Rattle.lhg_plant.proofs.Options.{some_decided_by, some_there, there_some, find_some, none_there}
-use Rattle.lhg_plant.proofs.StaysInside.{MayPick, IsKept, resting_kept, entry_kept}
+use Rattle.lhg_plant.proofs.StaysInside.{IsKept, resting_kept, entry_kept}
 use Rattle.lhg_plant.proofs.RunExists.{entry_does}
 use Rattle.lhg_plant.proofs.RunDetermined.{does_once}
 
@@ -91,23 +92,23 @@ entry_decided a r (land_entry y) =
       ]
     ]
 
-module _ (a : PlainPlant) (c : PlainController) (valid : IsValid a c) (fit : MayPick a c) where
+module _ (choice : Choice) (a : PlainPlant) (c : PlainController) (valid : IsValid a c) (fit : IsLegalChoice a c.region choice) where
   -- from each place that a run keeps all entries are legal, or one is the first that is not
-  log_from : (r : RunPlace) (entries : List PlainEntry) → IsKept a c r → AllLegalFrom a c r entries ⊎ ((k : ℕ) × IsIllegalFrom a c r entries k)
+  log_from : (r : RunPlace) (entries : List PlainEntry) → IsKept a c r → AllLegalFrom choice a c r entries ⊎ ((k : ℕ) × IsIllegalFrom choice a c r entries k)
   log_from r [] kept = inl tt
   log_from r (entry ∷ rest) kept =
       elim (entry_decided a r entry) [
         | inr n ↦ inr (zero, n)
         | inl legal ↦
-            (let does = entry_does a c valid fit r entry kept legal in
-            elim (log_from does.1 rest (entry_kept a c valid fit r entry does.0 does.1 kept legal does.2).0) [
-              | inl all ↦ inl (legal, λ steps next d. subst (λ (w : RunPlace). AllLegalFrom a c w rest) (does_once a c r entry does.0 steps does.1 next does.2 d).1 all)
+            (let does = entry_does choice a c valid fit r entry kept legal in
+            elim (log_from does.1 rest (entry_kept choice a c valid fit r entry does.0 does.1 kept legal does.2).0) [
+              | inl all ↦ inl (legal, λ steps next d. subst (λ (w : RunPlace). AllLegalFrom choice a c w rest) (does_once choice a c r entry does.0 steps does.1 next does.2 d).1 all)
               | inr bad ↦ inr (suc bad.0, (legal, does.0, does.1, does.2, bad.1))
             ])
       ]
 
   -- a log is legal, or has a first illegal entry
-  pub log_decided : (start : PlainState) (entries : List PlainEntry) → IsLegalLog a c start entries ⊎ ((n : ℕ) × IsFirstIllegal a c start entries n)
+  pub log_decided : (start : PlainState) (entries : List PlainEntry) → IsLegalLog choice a c start entries ⊎ ((n : ℕ) × IsFirstIllegal choice a c start entries n)
   log_decided start entries =
       elim (region_decided a c.region start) [
         | inr n ↦ inr (zero, n)
@@ -115,33 +116,33 @@ module _ (a : PlainPlant) (c : PlainController) (valid : IsValid a c) (fit : May
       ]
 
 -- where all entries are legal none is the first that is not
-none_illegal : (a : PlainPlant) (c : PlainController) (r : RunPlace) (entries : List PlainEntry) (k : ℕ) → AllLegalFrom a c r entries
-    → IsIllegalFrom a c r entries k → ⊥
-none_illegal a c r [] k legal h = h
-none_illegal a c r (entry ∷ rest) zero legal h = h legal.0
-none_illegal a c r (entry ∷ rest) (suc k) legal h = none_illegal a c h.2 rest k (legal.1 h.1 h.2 h.3) h.4
+none_illegal : (choice : Choice) (a : PlainPlant) (c : PlainController) (r : RunPlace) (entries : List PlainEntry) (k : ℕ) → AllLegalFrom choice a c r entries
+    → IsIllegalFrom choice a c r entries k → ⊥
+none_illegal choice a c r [] k legal h = h
+none_illegal choice a c r (entry ∷ rest) zero legal h = h legal.0
+none_illegal choice a c r (entry ∷ rest) (suc k) legal h = none_illegal choice a c h.2 rest k (legal.1 h.1 h.2 h.3) h.4
 
 -- a legal log has no first illegal entry
-pub legal_or_illegal : (a : PlainPlant) (c : PlainController) (start : PlainState) (entries : List PlainEntry) (n : ℕ) → IsLegalLog a c start entries
-    → IsFirstIllegal a c start entries n → ⊥
-legal_or_illegal a c start entries zero log h = h log.starts
-legal_or_illegal a c start entries (suc k) log h = none_illegal a c _ entries k log.all_legal h.1
+pub legal_or_illegal : (choice : Choice) (a : PlainPlant) (c : PlainController) (start : PlainState) (entries : List PlainEntry) (n : ℕ) → IsLegalLog choice a c start entries
+    → IsFirstIllegal choice a c start entries n → ⊥
+legal_or_illegal choice a c start entries zero log h = h log.starts
+legal_or_illegal choice a c start entries (suc k) log h = none_illegal choice a c _ entries k log.all_legal h.1
 
 -- entries have at most one first one that is not legal at its turn
-illegal_once : (a : PlainPlant) (c : PlainController) (r : RunPlace) (entries : List PlainEntry) (k l : ℕ) → IsIllegalFrom a c r entries k
-    → IsIllegalFrom a c r entries l → k ≡ l
-illegal_once a c r [] k l h i = absurd h
-illegal_once a c r (entry ∷ rest) zero zero h i = refl
-illegal_once a c r (entry ∷ rest) zero (suc l) h i = absurd (h i.0)
-illegal_once a c r (entry ∷ rest) (suc k) zero h i = absurd (i h.0)
-illegal_once a c r (entry ∷ rest) (suc k) (suc l) h i =
-    let same = does_once a c r entry h.1 i.1 h.2 i.2 h.3 i.3 in
-    ap suc (illegal_once a c i.2 rest k l (subst (λ (w : RunPlace). IsIllegalFrom a c w rest k) same.1 h.4) i.4)
+illegal_once : (choice : Choice) (a : PlainPlant) (c : PlainController) (r : RunPlace) (entries : List PlainEntry) (k l : ℕ) → IsIllegalFrom choice a c r entries k
+    → IsIllegalFrom choice a c r entries l → k ≡ l
+illegal_once choice a c r [] k l h i = absurd h
+illegal_once choice a c r (entry ∷ rest) zero zero h i = refl
+illegal_once choice a c r (entry ∷ rest) zero (suc l) h i = absurd (h i.0)
+illegal_once choice a c r (entry ∷ rest) (suc k) zero h i = absurd (i h.0)
+illegal_once choice a c r (entry ∷ rest) (suc k) (suc l) h i =
+    let same = does_once choice a c r entry h.1 i.1 h.2 i.2 h.3 i.3 in
+    ap suc (illegal_once choice a c i.2 rest k l (subst (λ (w : RunPlace). IsIllegalFrom choice a c w rest k) same.1 h.4) i.4)
 
 -- a log has at most one first illegal entry
-pub first_illegal_once : (a : PlainPlant) (c : PlainController) (start : PlainState) (entries : List PlainEntry) (m n : ℕ)
-    → IsFirstIllegal a c start entries m → IsFirstIllegal a c start entries n → m ≡ n
-first_illegal_once a c start entries zero zero h i = refl
-first_illegal_once a c start entries zero (suc n) h i = absurd (h i.0)
-first_illegal_once a c start entries (suc m) zero h i = absurd (i h.0)
-first_illegal_once a c start entries (suc m) (suc n) h i = ap suc (illegal_once a c (resting start) entries m n h.1 i.1)
+pub first_illegal_once : (choice : Choice) (a : PlainPlant) (c : PlainController) (start : PlainState) (entries : List PlainEntry) (m n : ℕ)
+    → IsFirstIllegal choice a c start entries m → IsFirstIllegal choice a c start entries n → m ≡ n
+first_illegal_once choice a c start entries zero zero h i = refl
+first_illegal_once choice a c start entries zero (suc n) h i = absurd (h i.0)
+first_illegal_once choice a c start entries (suc m) zero h i = absurd (i h.0)
+first_illegal_once choice a c start entries (suc m) (suc n) h i = ap suc (illegal_once choice a c (resting start) entries m n h.1 i.1)

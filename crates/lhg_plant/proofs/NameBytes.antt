@@ -3,10 +3,10 @@ use Rattle.std.proofs.Common.{◌≡◌, ◌-◌, ℕ, List, ◌++◌, length, d
 use Rattle.std.proofs.Math.Seq.{take-append_seam, drop-append_seam}
 use Rattle.std.proofs.lemmas.List.{length-replicate, drop-replicate}
 use Rattle.lhg_plant.specs.Word.{IsName}
-use Rattle.lhg_plant.specs.NameModel.{IsKept, inside}
+use Rattle.lhg_plant.specs.NameModel.{IsKeptName, inside}
 
 -- the bytes of a name, and zeros up to 32
-pub kept_name : (bytes : List ℕ) → IsName bytes → IsKept (inside (bytes ++ drop (length bytes) (replicate 32 0)) (length bytes))
+pub kept_name : (bytes : List ℕ) → IsName bytes → IsKeptName (inside (bytes ++ drop (length bytes) (replicate 32 0)) (length bytes))
 kept_name bytes h =
     let rest : List ℕ = drop (length bytes) (replicate 32 0) in
     let same : rest ≡ replicate (32 - length bytes) 0 = drop-replicate (length bytes) 32 0 in
@@ -20,5 +20,5 @@ kept_name bytes h =
 
 -- the same of a copy of the bytes
 pub kept_copy : (copied bytes : List ℕ) → copied ≡ bytes → IsName bytes
-    → IsKept (inside (copied ++ drop (length bytes) (replicate 32 0)) (length bytes))
-kept_copy copied bytes e h = subst (λ (b : List ℕ). IsKept (inside (b ++ drop (length bytes) (replicate 32 0)) (length bytes))) (sym e) (kept_name bytes h)
+    → IsKeptName (inside (copied ++ drop (length bytes) (replicate 32 0)) (length bytes))
+kept_copy copied bytes e h = subst (λ (b : List ℕ). IsKeptName (inside (b ++ drop (length bytes) (replicate 32 0)) (length bytes))) (sym e) (kept_name bytes h)

@@ -1,4 +1,4 @@
--- The result that the controller picks is a legal one in the region, and there is one where some legal result is in the region.
+-- The results that the calculus picks are a legal choice.
 use Rattle.std.proofs.Common.{◌≡◌, ◌⊎◌, inl, inr, ℕ, zero, suc, ◌+◌, List, [], ◌∷◌, ◌++◌, Option, Some, None, IsSomeAnd, slice_get, get_or, length, refl, sym, ap, ◌∙◌, subst, true}
 use Rattle.lhg_math.specs.Tests.{AllOf, every_from_all, all_from_every}
 use Rattle.lhg_num.specs.FracArithmetic.{frac_arithmetic, frac_is_lawful}
@@ -19,8 +19,8 @@ use Rattle.lhg_plant.specs.Legal.{LegalSwitch}
 use Rattle.lhg_plant.specs.Proper.{IsSwitch, IsProper}
 use Rattle.lhg_plant.specs.Region.{PlainRegion, InRegion}
 use Rattle.lhg_plant.specs.Inside.{IsRegionInside}
-use Rattle.lhg_plant.specs.Pick.{result_rows, results_in, sample_or, first_result, pick_by, picked_result}
-use Rattle.lhg_plant.specs.Run.{target_in, result_at}
+use Rattle.lhg_plant.specs.Pick.{result_rows, results_in, sample_or, first_result, pick_by, picked_result, picks}
+use Rattle.lhg_plant.specs.Choice.{target_in, result_at, IsLegalChoice}
 use Rattle.lhg_plant.proofs.Options.{find_some, there_some}
 use Rattle.lhg_plant.proofs.InsideStates.{some_inside}
 
@@ -117,15 +117,19 @@ module _ (a : PlainPlant) (region : PlainRegion) (proper : IsProper a) (inside :
       )
 
   -- what is picked is a legal result in the region
-  pub picked_right : (e : ℕ) (s : PlainState) (y : PlainPoint) → IsState a s → IsSomeAnd (slice_get a.switches e) (λ w. w.from ≡ s.loc)
+  picked_right : (e : ℕ) (s : PlainState) (y : PlainPoint) → IsState a s → IsSomeAnd (slice_get a.switches e) (λ w. w.from ≡ s.loc)
       → (picked_result a region e s).value ≡ Some y → IsPicked e s (result_at a e y)
   picked_right e s y state leaves h = right_by e s y (slice_get a.switches e) refl state leaves h
 
   -- where some legal result is in the region, one is picked
-  pub picked_found : (e : ℕ) (s z : PlainState) → LegalSwitch a e s z → InRegion a region z
+  picked_found : (e : ℕ) (s z : PlainState) → LegalSwitch a e s z → InRegion a region z
       → (y : PlainPoint) × ((picked_result a region e s).value ≡ Some y)
   picked_found e s z legal h =
       let w = legal.switch in
       let some = subst (λ (l : ℕ). InSome (get_or region l []) z.at) (sym legal.enters) h.some in
       let f = first_found (length a.vars) s.at legal.start.fits w.jump (jump_wide e w legal.is_there) (get_or region w.to []) z.at (inside.over w.to) h.state.fits legal.jump some in
       (f.0, ap (λ (o : Option PlainSwitch). (pick_by a region s.at o).value) legal.is_there ∙ f.1)
+
+  -- so what the calculus picks is a legal choice
+  pub picks_legal : IsLegalChoice a region (picks a region)
+  picks_legal = record { legal = picked_right; found = picked_found }

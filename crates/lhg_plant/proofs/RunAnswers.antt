@@ -2,7 +2,8 @@
 use Rattle.std.proofs.Common.{◌≡◌, ◌⊎◌, inl, inr, ℕ, [], ◌∷◌, slice_get, refl, sym, ap, ◌∙◌, subst, true}
 use Rattle.lhg_math.specs.Number.{Number, mul, neg, lt, nought, unit, mid}
 use Rattle.lhg_math.specs.NumberOrder.{lt-neg, lt_antisymm, lt_trans, le-lt_trans}
-use Rattle.lhg_math.specs.Interpolate.{interpolate, interpolate-lt, interpolate_end}
+use Rattle.lhg_math.specs.Interpolate.{interpolate}
+use Rattle.lhg_math.specs.InterpolateLaws.{interpolate-lt, interpolate_end}
 use Rattle.lhg_math.specs.Places.{IsPlace}
 use Rattle.lhg_math.specs.Tests.{by_bool}
 use Rattle.lhg_row.specs.Row.{PlainPoint}

@@ -10,8 +10,8 @@ use Rattle.lhg_plant.specs.State.{PlainState}
 use Rattle.lhg_plant.specs.Controller.{PlainController}
 use Rattle.lhg_plant.specs.Legal.{HasSide}
 use Rattle.lhg_plant.specs.Region.{PlainGuards}
-use Rattle.lhg_plant.specs.Pick.{picked_result}
-use Rattle.lhg_plant.specs.Run.{PlainEntry, flow_entry, env_entry, land_entry, PlainStep, started, switched, landed, RunPlace, resting, result_at, state_along, run_flow, PassesWhole, IsFirstOutside, IsFirstGuard, StopsAt, DoesEntry, RunsFrom, IsRun}
+use Rattle.lhg_plant.specs.Run.{PlainEntry, flow_entry, env_entry, land_entry, PlainStep, started, switched, landed, RunPlace, resting, state_along, run_flow, PassesWhole, IsFirstOutside, IsFirstGuard, StopsAt, DoesEntry, RunsFrom, IsRun}
+use Rattle.lhg_plant.specs.Choice.{result_at, Choice}
 use Rattle.lhg_plant.proofs.Picks.{some_point}
 use Rattle.lhg_plant.proofs.StaysInside.{same_number}
 
@@ -64,7 +64,7 @@ stop_steps s t y p e = run_flow s t y p ++ (switched e ∷ [])
 abbrev stop_next : PlainState → PlainPoint → Number → ℕ → RunPlace
 stop_next s y p e = record { state = state_along s y p; pending = Some e }
 
--- the steps of a flow that is stopped by a switch whose result is picked
+-- the steps of a flow that is stopped by a switch whose result is chosen
 abbrev pick_steps : PlainPlant → PlainState → Number → PlainPoint → Number → ℕ → PlainPoint → List PlainStep
 pick_steps a s t y p e z = run_flow s t y p ++ (switched e ∷ landed (result_at a e z) ∷ [])
 
@@ -73,54 +73,54 @@ abbrev Same : List PlainStep → RunPlace → List PlainStep → RunPlace → Ty
 Same steps next made there = (steps ≡ made) × (next ≡ there)
 
 -- one entry does one thing
-pub does_once : (a : PlainPlant) (c : PlainController) (r : RunPlace) (entry : PlainEntry) (steps made : List PlainStep) (next there : RunPlace)
-    → DoesEntry a c r entry steps next → DoesEntry a c r entry made there → Same steps next made there
-does_once a c r (flow_entry t y) steps made next there (inl h) (inl k) = (h.does ∙ sym k.does, h.goes ∙ sym k.goes)
-does_once a c r (flow_entry t y) steps made next there (inl h) (inr (inl k)) = pass_or_stop a c r.state y k.place k.switch h.whole k.stops
-does_once a c r (flow_entry t y) steps made next there (inl h) (inr (inr k)) = pass_or_stop a c r.state y k.place k.switch h.whole k.stops
-does_once a c r (flow_entry t y) steps made next there (inr (inl h)) (inl k) = pass_or_stop a c r.state y h.place h.switch k.whole h.stops
-does_once a c r (flow_entry t y) steps made next there (inr (inr h)) (inl k) = pass_or_stop a c r.state y h.place h.switch k.whole h.stops
-does_once a c r (flow_entry t y) steps made next there (inr (inl h)) (inr (inl k)) =
+pub does_once : (choice : Choice) (a : PlainPlant) (c : PlainController) (r : RunPlace) (entry : PlainEntry) (steps made : List PlainStep) (next there : RunPlace)
+    → DoesEntry choice a c r entry steps next → DoesEntry choice a c r entry made there → Same steps next made there
+does_once choice a c r (flow_entry t y) steps made next there (inl h) (inl k) = (h.does ∙ sym k.does, h.goes ∙ sym k.goes)
+does_once choice a c r (flow_entry t y) steps made next there (inl h) (inr (inl k)) = pass_or_stop a c r.state y k.place k.switch h.whole k.stops
+does_once choice a c r (flow_entry t y) steps made next there (inl h) (inr (inr k)) = pass_or_stop a c r.state y k.place k.switch h.whole k.stops
+does_once choice a c r (flow_entry t y) steps made next there (inr (inl h)) (inl k) = pass_or_stop a c r.state y h.place h.switch k.whole h.stops
+does_once choice a c r (flow_entry t y) steps made next there (inr (inr h)) (inl k) = pass_or_stop a c r.state y h.place h.switch k.whole h.stops
+does_once choice a c r (flow_entry t y) steps made next there (inr (inl h)) (inr (inl k)) =
     let p = stop_place_once a c r.state y h.place k.place h.switch k.switch h.stops k.stops in
     let e = stop_switch_once a c r.state y h.place k.place h.switch k.switch p h.stops k.stops in (
       h.does ∙ ap (λ w. stop_steps r.state t y w h.switch) p ∙ ap (λ (w : ℕ). stop_steps r.state t y k.place w) e ∙ sym k.does,
       h.goes ∙ ap (λ w. stop_next r.state y w h.switch) p ∙ ap (λ (w : ℕ). stop_next r.state y k.place w) e ∙ sym k.goes,
     )
-does_once a c r (flow_entry t y) steps made next there (inr (inl h)) (inr (inr k)) =
+does_once choice a c r (flow_entry t y) steps made next there (inr (inl h)) (inr (inr k)) =
     let p = stop_place_once a c r.state y h.place k.place h.switch k.switch h.stops k.stops in
     let e = stop_switch_once a c r.state y h.place k.place h.switch k.switch p h.stops k.stops in
     absurd (one_side (slice_get a.switches k.switch) (subst (λ (n : ℕ). HasSide a n Ctl) e h.side) k.side)
-does_once a c r (flow_entry t y) steps made next there (inr (inr h)) (inr (inl k)) =
+does_once choice a c r (flow_entry t y) steps made next there (inr (inr h)) (inr (inl k)) =
     let p = stop_place_once a c r.state y h.place k.place h.switch k.switch h.stops k.stops in
     let e = stop_switch_once a c r.state y h.place k.place h.switch k.switch p h.stops k.stops in
     absurd (one_side (slice_get a.switches h.switch) (subst (λ (n : ℕ). HasSide a n Ctl) (sym e) k.side) h.side)
-does_once a c r (flow_entry t y) steps made next there (inr (inr h)) (inr (inr k)) =
+does_once choice a c r (flow_entry t y) steps made next there (inr (inr h)) (inr (inr k)) =
     let p = stop_place_once a c r.state y h.place k.place h.switch k.switch h.stops k.stops in
     let e = stop_switch_once a c r.state y h.place k.place h.switch k.switch p h.stops k.stops in
-    let f : (picked_result a c.region h.switch (state_along r.state y h.place)).value ≡ (picked_result a c.region k.switch (state_along r.state y k.place)).value =
-    ap (λ (w : Number). (picked_result a c.region h.switch (state_along r.state y w)).value) p ∙ ap (λ (w : ℕ). (picked_result a c.region w (state_along r.state y k.place)).value) e in
+    let f : choice h.switch (state_along r.state y h.place) ≡ choice k.switch (state_along r.state y k.place) =
+    ap (λ (w : Number). choice h.switch (state_along r.state y w)) p ∙ ap (λ (w : ℕ). choice w (state_along r.state y k.place)) e in
     let z : h.result ≡ k.result = some_point h.result k.result (sym h.picks ∙ f ∙ k.picks) in (
       h.does ∙ ap (λ w. pick_steps a r.state t y w h.switch h.result) p ∙ ap (λ (w : ℕ). pick_steps a r.state t y k.place w h.result) e
           ∙ ap (λ (w : PlainPoint). pick_steps a r.state t y k.place k.switch w) z ∙ sym k.does,
       h.goes ∙ ap (λ (w : ℕ). resting (result_at a w h.result)) e ∙ ap (λ (w : PlainPoint). resting (result_at a k.switch w)) z ∙ sym k.goes,
     )
-does_once a c r (env_entry e y) steps made next there h k = (h.0 ∙ sym k.0, h.1 ∙ sym k.1)
-does_once a c r (land_entry y) steps made next there h k =
+does_once choice a c r (env_entry e y) steps made next there h k = (h.0 ∙ sym k.0, h.1 ∙ sym k.1)
+does_once choice a c r (land_entry y) steps made next there h k =
     let same : h.0 ≡ k.0 = same_number h.0 k.0 (sym h.1 ∙ k.1) in
     (h.2 ∙ ap (λ (w : ℕ). landed (result_at a w y) ∷ []) same ∙ sym k.2, h.3 ∙ ap (λ (w : ℕ). resting (result_at a w y)) same ∙ sym k.3)
 
 -- the runs of the same entries from the same place are the same
-runs_once : (a : PlainPlant) (c : PlainController) (r : RunPlace) (entries : List PlainEntry) (trace made : List PlainStep) (last there : RunPlace)
-    → RunsFrom a c r entries trace last → RunsFrom a c r entries made there → Same trace last made there
-runs_once a c r [] trace made last there h k = (h.0 ∙ sym k.0, h.1 ∙ sym k.1)
-runs_once a c r (entry ∷ rest) trace made last there h k =
-    let first = does_once a c r entry h.0 k.0 h.1 k.1 h.4 k.4 in
-    let more = runs_once a c k.1 rest h.2 k.2 last there (subst (λ (w : RunPlace). RunsFrom a c w rest h.2 last) first.1 h.5) k.5 in
+runs_once : (choice : Choice) (a : PlainPlant) (c : PlainController) (r : RunPlace) (entries : List PlainEntry) (trace made : List PlainStep) (last there : RunPlace)
+    → RunsFrom choice a c r entries trace last → RunsFrom choice a c r entries made there → Same trace last made there
+runs_once choice a c r [] trace made last there h k = (h.0 ∙ sym k.0, h.1 ∙ sym k.1)
+runs_once choice a c r (entry ∷ rest) trace made last there h k =
+    let first = does_once choice a c r entry h.0 k.0 h.1 k.1 h.4 k.4 in
+    let more = runs_once choice a c k.1 rest h.2 k.2 last there (subst (λ (w : RunPlace). RunsFrom choice a c w rest h.2 last) first.1 h.5) k.5 in
     (h.6 ∙ ap (λ w. w ++ h.2) first.0 ∙ ap (λ w. k.0 ++ w) more.0 ∙ sym k.6, more.1)
 
 -- the runs of the same log are the same
-pub run_once : (a : PlainPlant) (c : PlainController) (start : PlainState) (entries : List PlainEntry) (trace made : List PlainStep) (last there : RunPlace)
-    → IsRun a c start entries trace last → IsRun a c start entries made there → Same trace last made there
-run_once a c start entries trace made last there h k =
-    let s = runs_once a c (resting start) entries h.steps k.steps last there h.runs k.runs in
+pub run_once : (choice : Choice) (a : PlainPlant) (c : PlainController) (start : PlainState) (entries : List PlainEntry) (trace made : List PlainStep) (last there : RunPlace)
+    → IsRun choice a c start entries trace last → IsRun choice a c start entries made there → Same trace last made there
+run_once choice a c start entries trace made last there h k =
+    let s = runs_once choice a c (resting start) entries h.steps k.steps last there h.runs k.runs in
     (h.whole ∙ ap (λ w. started start ∷ w) s.0 ∙ sym k.whole, s.1)

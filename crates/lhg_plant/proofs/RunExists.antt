@@ -1,5 +1,5 @@
 -- A valid controller has a run over each legal log, and its visited states are in the region.
-use Rattle.std.proofs.Common.{◌≡◌, ◌⊎◌, inl, inr, ℕ, List, [], ◌∷◌, ◌++◌, Option, Some, None, IsSomeAnd, slice_get, refl, subst}
+use Rattle.std.proofs.Common.{◌≡◌, ◌⊎◌, inl, inr, ℕ, List, [], ◌∷◌, ◌++◌, Option, IsSomeAnd, slice_get, refl, subst}
 use Rattle.lhg_math.specs.Number.{Number}
 use Rattle.lhg_row.specs.Row.{PlainPoint}
 use Rattle.lhg_plant.specs.declared.plants.Side.{Side}
@@ -10,14 +10,14 @@ use Rattle.lhg_plant.specs.Legal.{HasSide}
 use Rattle.lhg_plant.specs.OutBack.{StaysBy}
 use Rattle.lhg_plant.specs.Region.{InRegion, InGuard}
 use Rattle.lhg_plant.specs.Controller.{PlainController, IsValid}
+use Rattle.lhg_plant.specs.Choice.{Choice, IsLegalChoice}
 use Rattle.lhg_plant.specs.Run.{PlainEntry, flow_entry, env_entry, land_entry, PlainStep, started, RunPlace, resting, state_along, StopsAt, IsLegalEntry, StopsFlow, PicksFlow, DoesEntry, RunsFrom, IsRun}
 use Rattle.lhg_plant.specs.Log.{AllLegalFrom, IsLegalLog, StaysInside}
 use Rattle.lhg_plant.proofs.Options.{find_some, there_some, some_there}
-use Rattle.lhg_plant.proofs.Picks.{picked_found}
-use Rattle.lhg_plant.proofs.StaysInside.{MayPick, IsKept, resting_kept, entry_kept, run_inside}
+use Rattle.lhg_plant.proofs.StaysInside.{IsKept, resting_kept, entry_kept, run_inside}
 use Rattle.lhg_plant.proofs.RunAnswers.{flow_answers}
 
-module _ (a : PlainPlant) (c : PlainController) (valid : IsValid a c) (fit : MayPick a c) where
+module _ (choice : Choice) (a : PlainPlant) (c : PlainController) (valid : IsValid a c) (fit : IsLegalChoice a c.region choice) where
   -- what the controller does at a switch of its guards is told by its side
   abbrev Takes : ℕ → PlainState → Type 0
   Takes e z = HasSide a e Ctl ⊎ (HasSide a e Pick × StaysBy Pick a (InRegion a c.region) e z)
@@ -39,19 +39,18 @@ module _ (a : PlainPlant) (c : PlainController) (valid : IsValid a c) (fit : May
 
   -- a flow that is stopped does something
   stop_does : (s : PlainState) (t : Number) (y : PlainPoint) (p : Number) (e : ℕ) → StopsAt a c s y p e
-      → (steps : List PlainStep) × (next : RunPlace) × (StopsFlow a c s t y steps next ⊎ PicksFlow a c s t y steps next)
+      → (steps : List PlainStep) × (next : RunPlace) × (StopsFlow a c s t y steps next ⊎ PicksFlow choice a c s t y steps next)
   stop_does s t y p e stop =
       elim (taken e (state_along s y p) stop.guard.holds) [
         | inl side ↦ (_, _, inl (record { place = p; switch = e; stops = stop; side = side; does = refl; goes = refl }))
         | inr k ↦
-            (let fits = fit e k.0 in
-            let z = picked_found a c.region fits.0 fits.1 e (state_along s y p) k.1.0 k.1.1 k.1.2 in
+            (let z = fit.found e (state_along s y p) k.1.0 k.1.1 k.1.2 in
             (_, _, inr (record { place = p; switch = e; stops = stop; side = k.0; result = z.0; picks = z.1; does = refl; goes = refl })))
       ]
 
   -- a legal entry does something
   pub entry_does : (r : RunPlace) (entry : PlainEntry) → IsKept a c r → IsLegalEntry a r entry
-      → (steps : List PlainStep) × (next : RunPlace) × DoesEntry a c r entry steps next
+      → (steps : List PlainStep) × (next : RunPlace) × DoesEntry choice a c r entry steps next
   entry_does r (flow_entry t y) kept legal =
       elim (flow_answers a c valid r.state t y legal.1 kept.inside) [
         | inl whole ↦ (_, _, inl (record { whole = whole; does = refl; goes = refl }))
@@ -61,17 +60,17 @@ module _ (a : PlainPlant) (c : PlainController) (valid : IsValid a c) (fit : May
   entry_does r (land_entry y) kept legal = (_, _, (legal.0, legal.1, refl, refl))
 
   -- entries that are legal at their turns have a run
-  run_from : (r : RunPlace) (entries : List PlainEntry) → IsKept a c r → AllLegalFrom a c r entries
-      → (trace : List PlainStep) × (last : RunPlace) × RunsFrom a c r entries trace last
+  run_from : (r : RunPlace) (entries : List PlainEntry) → IsKept a c r → AllLegalFrom choice a c r entries
+      → (trace : List PlainStep) × (last : RunPlace) × RunsFrom choice a c r entries trace last
   run_from r [] kept legal = ([], r, (refl, refl))
   run_from r (entry ∷ rest) kept legal =
       let does = entry_does r entry kept legal.0 in
-      let more = run_from does.1 rest (entry_kept a c valid fit r entry does.0 does.1 kept legal.0 does.2).0 (legal.1 does.0 does.1 does.2) in
+      let more = run_from does.1 rest (entry_kept choice a c valid fit r entry does.0 does.1 kept legal.0 does.2).0 (legal.1 does.0 does.1 does.2) in
       (does.0 ++ more.0, more.1, (does.0, does.1, more.0, legal.0, does.2, more.2, refl))
 
   -- a legal log has a run, and all its visited states are in the region
-  pub stays : (start : PlainState) (entries : List PlainEntry) → IsLegalLog a c start entries → StaysInside a c start entries
+  pub stays : (start : PlainState) (entries : List PlainEntry) → IsLegalLog choice a c start entries → StaysInside choice a c start entries
   stays start entries log =
       let more = run_from (resting start) entries (resting_kept a c start log.starts) log.all_legal in
-      let run : IsRun a c start entries (started start ∷ more.0) more.1 = record { starts = log.starts; steps = more.0; runs = more.2; whole = refl } in
-      record { trace = started start ∷ more.0; last = more.1; run = run; inside = run_inside a c valid fit start entries (started start ∷ more.0) more.1 run }
+      let run : IsRun choice a c start entries (started start ∷ more.0) more.1 = record { starts = log.starts; steps = more.0; runs = more.2; whole = refl } in
+      record { trace = started start ∷ more.0; last = more.1; run = run; inside = run_inside choice a c valid fit start entries (started start ∷ more.0) more.1 run }

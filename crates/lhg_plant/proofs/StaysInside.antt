@@ -2,8 +2,10 @@
 use Rattle.std.proofs.Common.{◌≡◌, inl, inr, ℕ, List, [], ◌∷◌, ◌++◌, Option, Some, None, IsSomeAnd, slice_get, length, sym, ap, ◌∙◌, subst, false}
 use Rattle.lhg_math.specs.Number.{Number, lt, nought, unit}
 use Rattle.lhg_math.specs.NumberOrder.{lt_irrefl, lt_antisymm, le_trans}
-use Rattle.lhg_math.specs.Interpolate.{interpolate, interpolate-lt, interpolate_start, interpolate_end, interpolate_same}
-use Rattle.lhg_math.specs.Places.{IsPlace, end_place}
+use Rattle.lhg_math.specs.Interpolate.{interpolate}
+use Rattle.lhg_math.specs.InterpolateLaws.{interpolate-lt, interpolate_start, interpolate_end, interpolate_same}
+use Rattle.lhg_math.specs.Places.{IsPlace}
+use Rattle.lhg_math.specs.PlacesLaws.{end_place}
 use Rattle.lhg_math.specs.Tests.{by_bool}
 use Rattle.lhg_row.specs.Row.{PlainPoint}
 use Rattle.lhg_motion.specs.Segment.{along}
@@ -19,13 +21,10 @@ use Rattle.lhg_plant.specs.OutBack.{StaysBy, BackBy}
 use Rattle.lhg_plant.specs.Escape.{MayPass}
 use Rattle.lhg_plant.specs.Region.{InRegion, InGuard, InSomeGuard}
 use Rattle.lhg_plant.specs.Controller.{PlainController, IsValid}
-use Rattle.lhg_plant.specs.Proper.{IsProper}
-use Rattle.lhg_plant.specs.Inside.{IsRegionInside}
-use Rattle.lhg_plant.specs.Pick.{picked_result}
-use Rattle.lhg_plant.specs.Run.{PlainEntry, flow_entry, env_entry, land_entry, PlainStep, flowed, switched, landed, RunPlace, resting, result_at, run_rows, run_flow, state_along, PassesWhole, StopsAt, IsLegalEntry, DoesEntry, RunsFrom, IsRun}
+use Rattle.lhg_plant.specs.Run.{PlainEntry, flow_entry, env_entry, land_entry, PlainStep, flowed, switched, landed, RunPlace, resting, run_rows, run_flow, state_along, PassesWhole, StopsAt, IsLegalEntry, DoesEntry, RunsFrom, IsRun}
+use Rattle.lhg_plant.specs.Choice.{result_at, Choice, IsLegalChoice}
 use Rattle.lhg_plant.specs.Log.{EachVisited}
 use Rattle.lhg_plant.proofs.Decided.{region_decided}
-use Rattle.lhg_plant.proofs.Picks.{picked_right}
 use Rattle.lhg_plant.proofs.RunInside.{flow_length, end_state, passes_inside, upto_inside}
 
 -- a part of a place is a place, and not past it
@@ -107,11 +106,7 @@ carry : (P : List PlainStep → RunPlace → Type 0) (steps made : List PlainSte
     → P steps next
 carry P steps made next there e f h = subst (λ (w : List PlainStep). P w next) (sym e) (subst (λ (w : RunPlace). P made w) (sym f) h)
 
--- where the plant has a switch of side `pick`, it is proper, and the region lies inside its invariants
-abbrev pub MayPick : PlainPlant → PlainController → Type 0
-MayPick a c = (e : ℕ) → HasSide a e Pick → IsProper a × IsRegionInside a c.region
-
-module _ (a : PlainPlant) (c : PlainController) (valid : IsValid a c) (fit : MayPick a c) where
+module _ (choice : Choice) (a : PlainPlant) (c : PlainController) (valid : IsValid a c) (fit : IsLegalChoice a c.region choice) where
   -- a flow that passes whole keeps it
   passes_kept : (s : PlainState) (t : Number) (y : PlainPoint) → LegalFlow a s t y → PassesWhole a c s y
       → Kept a c s (flowed t y ∷ []) (resting (moved_to s y))
@@ -155,20 +150,19 @@ module _ (a : PlainPlant) (c : PlainController) (valid : IsValid a c) (fit : May
     λ more rest. stop_visited s t y p e legal stop (switched e ∷ []) more rest,
   )
 
-  -- a flow that is stopped by a switch whose result is picked keeps it
+  -- a flow that is stopped by a switch whose result is chosen keeps it
   picks_kept : (s : PlainState) (t : Number) (y : PlainPoint) (p : Number) (e : ℕ) (z : PlainPoint) → LegalFlow a s t y → StopsAt a c s y p e
-      → HasSide a e Pick → (picked_result a c.region e (state_along s y p)).value ≡ Some z
+      → HasSide a e Pick → choice e (state_along s y p) ≡ Some z
       → Kept a c s (run_flow s t y p ++ (switched e ∷ landed (result_at a e z) ∷ [])) (resting (result_at a e z))
   picks_kept s t y p e z legal stop side picks =
-      let fits = fit e side in
-      let there = (picked_right a c.region fits.0 fits.1 e (state_along s y p) z stop.guard.holds.state stop.guard.holds.leaves picks).1 in (
+      let there = (fit.legal e (state_along s y p) z stop.guard.holds.state stop.guard.holds.leaves picks).1 in (
         resting_kept a c (result_at a e z) there,
         λ more rest. stop_visited s t y p e legal stop (switched e ∷ landed (result_at a e z) ∷ []) more (there, rest),
       )
 
   -- one entry
   pub entry_kept : (r : RunPlace) (entry : PlainEntry) (steps : List PlainStep) (next : RunPlace) → IsKept a c r → IsLegalEntry a r entry
-      → DoesEntry a c r entry steps next → Kept a c r.state steps next
+      → DoesEntry choice a c r entry steps next → Kept a c r.state steps next
   entry_kept r (flow_entry t y) steps next kept legal (inl h) = carry (Kept a c r.state) steps _ next _ h.does h.goes (passes_kept r.state t y legal.1 h.whole)
   entry_kept r (flow_entry t y) steps next kept legal (inr (inl h)) = carry (Kept a c r.state) steps _ next _ h.does h.goes (stops_kept r.state t y h.place h.switch legal.1 h.stops h.side)
   entry_kept r (flow_entry t y) steps next kept legal (inr (inr h)) =
@@ -184,14 +178,14 @@ module _ (a : PlainPlant) (c : PlainController) (valid : IsValid a c) (fit : May
 
   -- the visited states of entries are in the region
   runs_inside : (r : RunPlace) (entries : List PlainEntry) (trace : List PlainStep) (last : RunPlace) → IsKept a c r
-      → RunsFrom a c r entries trace last → EachVisited (InRegion a c.region) r.state trace
+      → RunsFrom choice a c r entries trace last → EachVisited (InRegion a c.region) r.state trace
   runs_inside r [] trace last kept h = subst (λ (w : List PlainStep). EachVisited (InRegion a c.region) r.state w) (sym h.0) tt
   runs_inside r (entry ∷ rest) trace last kept h =
       let k = entry_kept r entry h.0 h.1 kept h.3 h.4 in
       subst (λ (w : List PlainStep). EachVisited (InRegion a c.region) r.state w) (sym h.6) (k.1 h.2 (runs_inside h.1 rest h.2 last k.0 h.5))
 
   -- all visited states of a run are in the region
-  pub run_inside : (start : PlainState) (entries : List PlainEntry) (trace : List PlainStep) (last : RunPlace) → IsRun a c start entries trace last
+  pub run_inside : (start : PlainState) (entries : List PlainEntry) (trace : List PlainStep) (last : RunPlace) → IsRun choice a c start entries trace last
       → EachVisited (InRegion a c.region) start trace
   run_inside start entries trace last run =
       subst (λ (w : List PlainStep). EachVisited (InRegion a c.region) start w) (sym run.whole)

@@ -4,7 +4,7 @@ use Rattle.std.proofs.lemmas.Bool.{not-true}
 use Rattle.lhg_math.specs.Number.{Number, add, mul, neg, sub, lt, nought, unit}
 use Rattle.lhg_math.specs.NumberRing.{add-nought, nought-add, nought-mul, mul-nought, neg-mul}
 use Rattle.lhg_math.specs.NumberOrder.{lt_irrefl, lt_antisymm, lt-nought_neg, lt-difference, difference-lt}
-use Rattle.lhg_math.specs.Interpolate.{interpolate_same, unit-mul}
+use Rattle.lhg_math.specs.InterpolateLaws.{interpolate_same, unit-mul}
 use Rattle.lhg_row.specs.Row.{PlainPoint, row_value}
 use Rattle.lhg_row.specs.Piece.{PlainPiece, InPiece}
 use Rattle.lhg_motion.specs.Segment.{along}

@@ -1,12 +1,12 @@
 -- Which laws does the safety game obey, for every plant?
-use Rattle.std.specs.Prelude.{◌≡◌, ◌<◌, ◌≤◌, ◌↔◌, ◌⊎◌, ℕ, suc, true, List, [], length, Some, slice_get, IsSomeAnd, Contains}
+use Rattle.std.specs.Prelude.{◌≡◌, ◌<◌, ◌≤◌, ◌↔◌, ◌⊎◌, ℕ, suc, true, List, [], length, Contains}
 use Rattle.lhg_motion.specs.Play.{PlainMove, EachPoint}
 use Rattle.lhg_plant.specs.Plant.{PlainPlant}
 use Rattle.lhg_plant.specs.State.{PlainState, States, IsState, IsSafe}
 use Rattle.lhg_math.specs.Number.{Number}
 use Rattle.lhg_num.specs.Arithmetic.{Arithmetic}
 use Rattle.lhg_row.specs.Row.{PlainPoint}
-use Rattle.lhg_plant.specs.Legal.{IsPlayFrom, LegalFlow, LegalSwitch, LegalSwitchTo}
+use Rattle.lhg_plant.specs.Legal.{IsPlayFrom, LegalFlow, LegalSwitchTo}
 use Rattle.lhg_plant.specs.LegalTruths.{state_truth, legal_flow_truth, legal_switch_truth}
 use Rattle.lhg_plant.specs.OutBack.{Out, Back, BackBy}
 use Rattle.lhg_plant.specs.Escape.{MayPass, HasEscape, IsSecure}
@@ -16,8 +16,9 @@ use Rattle.lhg_plant.specs.Sound.{Shows, IsSoundLoss}
 use Rattle.lhg_plant.specs.Region.{PlainRegion, PlainGuards, InRegion, InGuard}
 use Rattle.lhg_plant.specs.Controller.{PlainController, IsValid}
 use Rattle.lhg_plant.specs.Inside.{IsRegionInside}
-use Rattle.lhg_plant.specs.Pick.{picked_result}
-use Rattle.lhg_plant.specs.Run.{PlainEntry, PlainStep, RunPlace, result_at, IsRun}
+use Rattle.lhg_plant.specs.Pick.{picks}
+use Rattle.lhg_plant.specs.Run.{PlainEntry, PlainStep, RunPlace, IsRun}
+use Rattle.lhg_plant.specs.Choice.{Choice, IsLegalChoice}
 use Rattle.lhg_plant.specs.Solution.{InSomeLoss, IsSolution}
 use Rattle.lhg_plant.specs.Still.{IsStill, HasNoSwitch}
 use Rattle.lhg_plant.specs.Proper.{IsProper}
@@ -64,30 +65,26 @@ pub record ValidLaws (a : PlainPlant) (c : PlainController) : Type 0 where
   pub secure : HasExactGuards a c → IsSecure a (InRegion a c.region) → IsValid a c
   pub settled : HasExactGuards a c → (i : ℕ) → RemovesNothing a (suc i) → ((s : PlainState) → InRegion a c.region s ↔ InRound a i s) → IsValid a c
 
--- in a proper plant whose invariants the region lies inside, the result that the controller picks is a legal one in the region, and
--- there is one where some legal result is in the region
-pub record PickLaws (a : PlainPlant) (region : PlainRegion) : Type 0 where
-  pub picked : IsProper a → IsRegionInside a region → (e : ℕ) (s : PlainState) (y : PlainPoint) → IsState a s
-      → IsSomeAnd (slice_get a.switches e) (λ w. w.from ≡ s.loc) → (picked_result a region e s).value ≡ Some y
-      → LegalSwitch a e s (result_at a e y) × InRegion a region (result_at a e y)
-  pub found : IsProper a → IsRegionInside a region → (e : ℕ) (s z : PlainState) → LegalSwitch a e s z → InRegion a region z
-      → (y : PlainPoint) × ((picked_result a region e s).value ≡ Some y)
+-- in a proper plant whose invariants the region lies inside, the results that the calculus picks are a legal choice
+abbrev pub PicksLaw : PlainPlant → PlainRegion → Type 0
+PicksLaw a region = IsProper a → IsRegionInside a region → IsLegalChoice a region (picks a region)
 
--- of a proper plant: a valid controller whose region lies inside the invariants has a run over each legal log, it has one alone, and
--- the visited states of each run are in its region; each log is legal or has a first illegal entry, not both, and one alone
-pub record RunLaws (a : PlainPlant) (c : PlainController) : Type 0 where
-  pub answered : IsProper a → IsRegionInside a c.region → IsValid a c → (start : PlainState) (entries : List PlainEntry)
-      → IsLegalLog a c start entries → StaysInside a c start entries
-  pub inside : IsProper a → IsRegionInside a c.region → IsValid a c
+-- a valid controller with a legal choice of results has a run over each legal log, it has one alone, and the visited states of each
+-- run are in its region; each log is legal or has a first illegal entry, not both, and one alone
+pub record RunLaws (choice : Choice) (a : PlainPlant) (c : PlainController) : Type 0 where
+  pub answered : IsLegalChoice a c.region choice → IsValid a c → (start : PlainState) (entries : List PlainEntry)
+      → IsLegalLog choice a c start entries → StaysInside choice a c start entries
+  pub inside : IsLegalChoice a c.region choice → IsValid a c
       → (start : PlainState) (entries : List PlainEntry) (trace : List PlainStep) (last : RunPlace)
-      → IsRun a c start entries trace last → EachVisited (InRegion a c.region) start trace
+      → IsRun choice a c start entries trace last → EachVisited (InRegion a c.region) start trace
   pub determined : (start : PlainState) (entries : List PlainEntry) (trace made : List PlainStep) (last there : RunPlace)
-      → IsRun a c start entries trace last → IsRun a c start entries made there → (trace ≡ made) × (last ≡ there)
-  pub decided : IsProper a → IsRegionInside a c.region → IsValid a c → (start : PlainState) (entries : List PlainEntry)
-      → IsLegalLog a c start entries ⊎ ((n : ℕ) × IsFirstIllegal a c start entries n)
-  pub exclusive : (start : PlainState) (entries : List PlainEntry) (n : ℕ) → IsLegalLog a c start entries → ¬ IsFirstIllegal a c start entries n
-  pub one_illegal : (start : PlainState) (entries : List PlainEntry) (m n : ℕ) → IsFirstIllegal a c start entries m
-      → IsFirstIllegal a c start entries n → m ≡ n
+      → IsRun choice a c start entries trace last → IsRun choice a c start entries made there → (trace ≡ made) × (last ≡ there)
+  pub decided : IsLegalChoice a c.region choice → IsValid a c → (start : PlainState) (entries : List PlainEntry)
+      → IsLegalLog choice a c start entries ⊎ ((n : ℕ) × IsFirstIllegal choice a c start entries n)
+  pub exclusive : (start : PlainState) (entries : List PlainEntry) (n : ℕ) → IsLegalLog choice a c start entries
+      → ¬ IsFirstIllegal choice a c start entries n
+  pub one_illegal : (start : PlainState) (entries : List PlainEntry) (m n : ℕ) → IsFirstIllegal choice a c start entries m
+      → IsFirstIllegal choice a c start entries n → m ≡ n
 
 -- a sound record is true; a true one names the round in which each of its states was removed; and where each of its states is in Out or not in Back, its pieces alone show the move
 pub record LossLaws (a : PlainPlant) (losses : List PlainLoss) (loss : PlainLoss) : Type 0 where
@@ -97,11 +94,10 @@ pub record LossLaws (a : PlainPlant) (losses : List PlainLoss) (loss : PlainLoss
       → Shows a (InRound a i) losses loss loss.cause
       → (s : PlainState) → InLoss a loss s → HasMove a (InRound a i) losses loss loss.cause s
 
--- of a proper plant: a region inside the invariants that is the round before the last one, with the guards from its Back and with true
--- records of all that was lost, is a solution
+-- a region that is the round before the last one, with the guards from its Back and with true records of all that was lost, is a
+-- solution
 abbrev pub SolvedLaw : Type 0
-SolvedLaw = (a : PlainPlant) (c : PlainController) (i : ℕ) (losses : List PlainLoss) → IsProper a → IsRegionInside a c.region
-    → IsLastRound a (suc i) → ((s : PlainState) → InRegion a c.region s ↔ InRound a i s) → HasExactGuards a c
+SolvedLaw = (a : PlainPlant) (c : PlainController) (i : ℕ) (losses : List PlainLoss) → IsLastRound a (suc i) → ((s : PlainState) → InRegion a c.region s ↔ InRound a i s) → HasExactGuards a c
     → ((s : PlainState) → IsSafe a s → ¬ InRegion a c.region s → InSomeLoss a losses s) → ((loss : PlainLoss) → Contains losses loss → IsTrueLoss a losses loss)
     → IsSolution a c (suc i) losses
 

@@ -1,4 +1,5 @@
 pub mod BackCalculus
+pub mod Choice
 pub mod Controller
 pub mod Differ
 pub mod Escape

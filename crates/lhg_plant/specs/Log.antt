@@ -6,29 +6,30 @@ use Rattle.lhg_plant.specs.Plant.{PlainPlant}
 use Rattle.lhg_plant.specs.State.{PlainState, States, moved_to}
 use Rattle.lhg_plant.specs.Region.{InRegion}
 use Rattle.lhg_plant.specs.Controller.{PlainController}
+use Rattle.lhg_plant.specs.Choice.{Choice}
 use Rattle.lhg_plant.specs.Run.{PlainEntry, PlainStep, started, flowed, switched, landed, env_switched, RunPlace, resting, state_along, IsLegalEntry, DoesEntry, IsRun}
 
 -- each entry is legal at its turn, whatever the entries before it did
-abbrev pub AllLegalFrom : PlainPlant → PlainController → RunPlace → List PlainEntry → Type 0
-AllLegalFrom a c r [] = Unit {0}
-AllLegalFrom a c r (entry ∷ rest) = IsLegalEntry a r entry × ((steps : List PlainStep) (next : RunPlace) → DoesEntry a c r entry steps next → AllLegalFrom a c next rest)
+abbrev pub AllLegalFrom : Choice → PlainPlant → PlainController → RunPlace → List PlainEntry → Type 0
+AllLegalFrom choice a c r [] = Unit {0}
+AllLegalFrom choice a c r (entry ∷ rest) = IsLegalEntry a r entry × ((steps : List PlainStep) (next : RunPlace) → DoesEntry choice a c r entry steps next → AllLegalFrom choice a c next rest)
 
 -- the start is in the region, and each entry is legal at its turn
-pub record IsLegalLog (a : PlainPlant) (c : PlainController) (start : PlainState) (entries : List PlainEntry) : Type 0 where
+pub record IsLegalLog (choice : Choice) (a : PlainPlant) (c : PlainController) (start : PlainState) (entries : List PlainEntry) : Type 0 where
   pub starts : InRegion a c.region start
-  pub all_legal : AllLegalFrom a c (resting start) entries
+  pub all_legal : AllLegalFrom choice a c (resting start) entries
 
 -- entry k, counted from 0, is the first that is not legal at its turn
-abbrev pub IsIllegalFrom : PlainPlant → PlainController → RunPlace → List PlainEntry → ℕ → Type 0
-IsIllegalFrom a c r [] k = ⊥
-IsIllegalFrom a c r (entry ∷ rest) zero = ¬ IsLegalEntry a r entry
-IsIllegalFrom a c r (entry ∷ rest) (suc k) =
-    IsLegalEntry a r entry × (steps : List PlainStep) × (next : RunPlace) × DoesEntry a c r entry steps next × IsIllegalFrom a c next rest k
+abbrev pub IsIllegalFrom : Choice → PlainPlant → PlainController → RunPlace → List PlainEntry → ℕ → Type 0
+IsIllegalFrom choice a c r [] k = ⊥
+IsIllegalFrom choice a c r (entry ∷ rest) zero = ¬ IsLegalEntry a r entry
+IsIllegalFrom choice a c r (entry ∷ rest) (suc k) =
+    IsLegalEntry a r entry × (steps : List PlainStep) × (next : RunPlace) × DoesEntry choice a c r entry steps next × IsIllegalFrom choice a c next rest k
 
 -- the number of the first illegal entry: 0 where the start is not in the region, and else the entries count from 1
-abbrev pub IsFirstIllegal : PlainPlant → PlainController → PlainState → List PlainEntry → ℕ → Type 0
-IsFirstIllegal a c start entries zero = ¬ InRegion a c.region start
-IsFirstIllegal a c start entries (suc k) = InRegion a c.region start × IsIllegalFrom a c (resting start) entries k
+abbrev pub IsFirstIllegal : Choice → PlainPlant → PlainController → PlainState → List PlainEntry → ℕ → Type 0
+IsFirstIllegal choice a c start entries zero = ¬ InRegion a c.region start
+IsFirstIllegal choice a c start entries (suc k) = InRegion a c.region start × IsIllegalFrom choice a c (resting start) entries k
 
 -- what holds of each state that the steps visit from s: of the start, of all points of the flows, and of all results
 abbrev pub EachVisited : States → PlainState → List PlainStep → Type 0
@@ -40,8 +41,8 @@ EachVisited P s (landed z ∷ steps) = P z × EachVisited P z steps
 EachVisited P s (env_switched e z ∷ steps) = P z × EachVisited P z steps
 
 -- the log has a run, and all states that it visits are in the region
-pub record StaysInside (a : PlainPlant) (c : PlainController) (start : PlainState) (entries : List PlainEntry) : Type 0 where
+pub record StaysInside (choice : Choice) (a : PlainPlant) (c : PlainController) (start : PlainState) (entries : List PlainEntry) : Type 0 where
   pub trace : List PlainStep
   pub last : RunPlace
-  pub run : IsRun a c start entries trace last
+  pub run : IsRun choice a c start entries trace last
   pub inside : EachVisited (InRegion a c.region) start trace

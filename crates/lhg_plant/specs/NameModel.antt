@@ -10,7 +10,7 @@ abbrev pub name_bytes : Inside → List ℕ
 name_bytes n = take n.used n.array
 
 -- the bytes in use are a name, and the others are 0
-pub record IsKept (n : Inside) : Type 0 where
+pub record IsKeptName (n : Inside) : Type 0 where
   pub whole : length n.array ≡ 32
   pub within : n.used ≤ 32
   pub name : IsName (take n.used n.array)
@@ -25,7 +25,7 @@ abbrev pub fields_of : List ℕ → Inside
 fields_of bytes = inside (bytes ++ replicate (32 - length bytes) 0) (length bytes)
 
 -- the bytes in use determine the array
-pub fields_back : (n : Inside) → IsKept n → fields_of (name_bytes n) ≡ n
+pub fields_back : (n : Inside) → IsKeptName n → fields_of (name_bytes n) ≡ n
 fields_back n h =
     let used : length (take n.used n.array) ≡ n.used = length-take-le n.used n.array (omega (arith, h.whole, h.within)) in
     ap (λ (m : ℕ). inside (take n.used n.array ++ replicate (32 - m) 0) m) used

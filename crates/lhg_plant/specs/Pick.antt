@@ -1,4 +1,4 @@
--- Which result does the controller pick by a switch of side `pick`?
+-- Which result does the calculus choose by a switch of side `pick`?
 use Rattle.std.specs.Prelude.{ℕ, List, [], ◌∷◌, ◌++◌, length, Option, Some, None, get_or, slice_get}
 use Rattle.lhg_num.specs.FracArithmetic.{frac_arithmetic}
 use Rattle.lhg_num.specs.Marked.{Marked, done, and_then, valued}
@@ -10,6 +10,7 @@ use Rattle.lhg_row.specs.Sample.{sample}
 use Rattle.lhg_plant.specs.Plant.{PlainPlant, PlainSwitch}
 use Rattle.lhg_plant.specs.State.{PlainState}
 use Rattle.lhg_plant.specs.Region.{PlainRegion}
+use Rattle.lhg_plant.specs.Choice.{Choice}
 
 -- the rows that the results in a piece satisfy: the jump rows with the point put in, followed by those of the piece
 abbrev pub result_rows : PlainPoint → PlainPiece → PlainPiece → Marked PlainPiece
@@ -34,6 +35,10 @@ abbrev pub pick_by : PlainPlant → PlainRegion → PlainPoint → Option PlainS
 pick_by a region x None = done None
 pick_by a region x (Some w) = first_result (length a.vars) x w.jump (get_or region w.to [])
 
--- the result that the controller picks by switch e at the state, where some piece of the region holds one
+-- the result that is picked by switch e at the state, where some piece of the region holds one
 abbrev pub picked_result : PlainPlant → PlainRegion → ℕ → PlainState → Marked (Option PlainPoint)
 picked_result a region e s = pick_by a region s.at (slice_get a.switches e)
+
+-- this choice of results in the region
+abbrev pub picks : PlainPlant → PlainRegion → Choice
+picks a region e s = (picked_result a region e s).value

@@ -1,5 +1,5 @@
--- What does a controller do with a list of entries: what is its run?
-use Rattle.std.specs.Prelude.{◌≡◌, ◌⊎◌, ◌<◌, ℕ, zero, true, cond, nat_eq, List, [], ◌∷◌, ◌++◌, Option, Some, None, get_or, slice_get}
+-- What does a controller do with a list of entries, whatever legal results it chooses: what is its run?
+use Rattle.std.specs.Prelude.{◌≡◌, ◌⊎◌, ◌<◌, ℕ, true, cond, nat_eq, List, [], ◌∷◌, ◌++◌, Option, Some, None, get_or}
 use Rattle.lhg_math.specs.Number.{Number, mul, lt, nought}
 use Rattle.lhg_row.specs.Row.{PlainPoint, PlainRow}
 use Rattle.lhg_motion.specs.Segment.{along}
@@ -10,7 +10,7 @@ use Rattle.lhg_plant.specs.State.{PlainState, moved_to}
 use Rattle.lhg_plant.specs.Legal.{LegalFlow, LegalSwitch, HasSide}
 use Rattle.lhg_plant.specs.Region.{PlainGuards, InRegion, InGuard}
 use Rattle.lhg_plant.specs.Controller.{PlainController}
-use Rattle.lhg_plant.specs.Pick.{picked_result}
+use Rattle.lhg_plant.specs.Choice.{result_at, Choice}
 
 -- one entry of a log: a flow with its time and its end; an uncontrollable switch and its result; the result of the switch
 -- that is pending
@@ -35,15 +35,6 @@ pub record RunPlace : Type 0 where
 -- at a state, with no switch pending
 abbrev pub resting : PlainState → RunPlace
 resting s = record { state = s; pending = None }
-
--- the location that a switch enters
-abbrev pub target_in : Option PlainSwitch → ℕ
-target_in None = zero
-target_in (Some w) = w.to
-
--- a point in the location that switch e enters
-abbrev pub result_at : PlainPlant → ℕ → PlainPoint → PlainState
-result_at a e p = record { loc = target_in (slice_get a.switches e); at = p }
 
 -- the rows of the guards of the switches that leave the location
 abbrev pub guard_rows : List PlainSwitch → PlainGuards → ℕ → List PlainRow
@@ -113,33 +104,33 @@ pub record StopsFlow (a : PlainPlant) (c : PlainController) (s : PlainState) (t 
   pub does : steps ≡ run_flow s t y place ++ (switched switch ∷ [])
   pub goes : next ≡ record { state = state_along s y place; pending = Some switch }
 
--- the controller stops the flow by a switch of side `pick` and gives its result at once, so that none is pending
-pub record PicksFlow (a : PlainPlant) (c : PlainController) (s : PlainState) (t : Number) (y : PlainPoint) (steps : List PlainStep) (next : RunPlace) : Type 0 where
+-- the controller stops the flow by a switch of side `pick` and gives the result that it chooses at once, so that none is pending
+pub record PicksFlow (choice : Choice) (a : PlainPlant) (c : PlainController) (s : PlainState) (t : Number) (y : PlainPoint) (steps : List PlainStep) (next : RunPlace) : Type 0 where
   pub place : Number
   pub switch : ℕ
   pub stops : StopsAt a c s y place switch
   pub side : HasSide a switch Pick
   pub result : PlainPoint
-  pub picks : (picked_result a c.region switch (state_along s y place)).value ≡ Some result
+  pub picks : choice switch (state_along s y place) ≡ Some result
   pub does : steps ≡ run_flow s t y place ++ (switched switch ∷ landed (result_at a switch result) ∷ [])
   pub goes : next ≡ resting (result_at a switch result)
 
 -- what an entry does: the steps of the trace, and where the run stands after it
-abbrev pub DoesEntry : PlainPlant → PlainController → RunPlace → PlainEntry → List PlainStep → RunPlace → Type 0
-DoesEntry a c r (flow_entry t y) steps next = PassesFlow a c r.state t y steps next ⊎ (StopsFlow a c r.state t y steps next ⊎ PicksFlow a c r.state t y steps next)
-DoesEntry a c r (env_entry e y) steps next = (steps ≡ env_switched e (result_at a e y) ∷ []) × (next ≡ resting (result_at a e y))
-DoesEntry a c r (land_entry y) steps next = (e : ℕ) × (r.pending ≡ Some e) × (steps ≡ landed (result_at a e y) ∷ []) × (next ≡ resting (result_at a e y))
+abbrev pub DoesEntry : Choice → PlainPlant → PlainController → RunPlace → PlainEntry → List PlainStep → RunPlace → Type 0
+DoesEntry choice a c r (flow_entry t y) steps next = PassesFlow a c r.state t y steps next ⊎ (StopsFlow a c r.state t y steps next ⊎ PicksFlow choice a c r.state t y steps next)
+DoesEntry choice a c r (env_entry e y) steps next = (steps ≡ env_switched e (result_at a e y) ∷ []) × (next ≡ resting (result_at a e y))
+DoesEntry choice a c r (land_entry y) steps next = (e : ℕ) × (r.pending ≡ Some e) × (steps ≡ landed (result_at a e y) ∷ []) × (next ≡ resting (result_at a e y))
 
 -- the run of the entries, each legal at its turn, with its trace and where it ends
-abbrev pub RunsFrom : PlainPlant → PlainController → RunPlace → List PlainEntry → List PlainStep → RunPlace → Type 0
-RunsFrom a c r [] trace last = (trace ≡ []) × (last ≡ r)
-RunsFrom a c r (entry ∷ rest) trace last =
+abbrev pub RunsFrom : Choice → PlainPlant → PlainController → RunPlace → List PlainEntry → List PlainStep → RunPlace → Type 0
+RunsFrom choice a c r [] trace last = (trace ≡ []) × (last ≡ r)
+RunsFrom choice a c r (entry ∷ rest) trace last =
     (steps : List PlainStep) × (next : RunPlace) × (more : List PlainStep)
-    × IsLegalEntry a r entry × DoesEntry a c r entry steps next × RunsFrom a c next rest more last × (trace ≡ steps ++ more)
+    × IsLegalEntry a r entry × DoesEntry choice a c r entry steps next × RunsFrom choice a c next rest more last × (trace ≡ steps ++ more)
 
 -- the run from a start in the region
-pub record IsRun (a : PlainPlant) (c : PlainController) (start : PlainState) (entries : List PlainEntry) (trace : List PlainStep) (last : RunPlace) : Type 0 where
+pub record IsRun (choice : Choice) (a : PlainPlant) (c : PlainController) (start : PlainState) (entries : List PlainEntry) (trace : List PlainStep) (last : RunPlace) : Type 0 where
   pub starts : InRegion a c.region start
   pub steps : List PlainStep
-  pub runs : RunsFrom a c (resting start) entries steps last
+  pub runs : RunsFrom choice a c (resting start) entries steps last
   pub whole : trace ≡ started start ∷ steps

@@ -11,10 +11,11 @@ ghost use Rattle.lhg_plant.specs.Controller.{PlainController};
 ghost use Rattle.lhg_plant.specs.Loss.{PlainLoss};
 ghost use Rattle.lhg_plant.specs.Example.{WordFacts, ThermostatFacts, TankFacts};
 ghost use Rattle.lhg_plant.specs.PickExample.{LiftFacts};
+ghost use Rattle.lhg_plant.specs.Choice.{Choice};
 ghost use Rattle.lhg_plant.specs.Inside.{IsRegionInside};
 ghost use Rattle.lhg_plant.specs.Proper.{IsProper};
 ghost use Rattle.lhg_plant.specs.SafeRegion.{safe_region};
-ghost use Rattle.lhg_plant.specs.Laws.{MemberLaws, LegalLaws, MonotoneLaws, RoundLaws, ValidLaws, PickLaws, RunLaws, LossLaws, SolvedLaw, StillLaws, SafeRegionLaw, WordLaws};
+ghost use Rattle.lhg_plant.specs.Laws.{MemberLaws, LegalLaws, MonotoneLaws, RoundLaws, ValidLaws, PicksLaw, RunLaws, LossLaws, SolvedLaw, StillLaws, SafeRegionLaw, WordLaws};
 ghost use Rattle.lhg_plant.specs.SwitchLaws.{PreLaw, OutLaw, BackLaw, KeepLaw, GuardLaw};
 ghost use Rattle.lhg_plant.specs.WorkedSwitches.{SwitchRows};
 
@@ -55,14 +56,14 @@ pub fn law_valid()
     ensures { (a : PlainPlant) (c : PlainController) → ValidLaws a c }
 {}
 
-/// What the controller picks at a switch of side `pick` is a legal result in the region, where there is one.
+/// What the calculus picks at a switch of side `pick` is a legal result in the region, where there is one.
 pub fn law_picks()
-    ensures { (a : PlainPlant) (region : PlainRegion) → PickLaws a region }
+    ensures { (a : PlainPlant) (region : PlainRegion) → PicksLaw a region }
 {}
 
-/// A valid controller has exactly one run over each legal log, and all its visited states are in the region.
+/// A valid controller has exactly one run over each legal log, and all its visited states are in the region, whatever legal results it chooses.
 pub fn law_run()
-    ensures { (a : PlainPlant) (c : PlainController) → RunLaws a c }
+    ensures { (choice : Choice) (a : PlainPlant) (c : PlainController) → RunLaws choice a c }
 {}
 
 /// Sound loss records are true.

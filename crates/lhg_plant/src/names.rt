@@ -17,11 +17,11 @@ impl Model for Name {
 
     ghost Value = { List ℕ };
 
-    ghost use Rattle.lhg_plant.specs.NameModel.{name_bytes, IsKept, fields_of, fields_back};
+    ghost use Rattle.lhg_plant.specs.NameModel.{name_bytes, IsKeptName, fields_of, fields_back};
 
     ghost view = { name_bytes };
 
-    ghost invariant = { IsKept };
+    ghost invariant = { IsKeptName };
 
     ghost inverse = { fields_of };
 

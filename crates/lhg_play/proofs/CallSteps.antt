@@ -10,7 +10,7 @@ use Rattle.lhg_num.specs.Marked.{Marked, and_then, IsRest, marked_sub, marked_di
 use Rattle.lhg_num.specs.MarkedLaws.{IsPart, IsBuilt, part_self, rest_self, rest_part, rest_rest, and_then-part, and_then-rest}
 use Rattle.lhg_num.specs.declared.refusals.Halt.{Halt}
 use Rattle.lhg_num.specs.declared.refusals.Halt.TheVariants.{Wide, Rows, Pieces, Memory}
-use Rattle.lhg_row.proofs.Steps.{rest_step, step_part}
+use Rattle.lhg_num.specs.PartLaws.{rest_step, step_part}
 use Rattle.lhg_row.specs.Row.{PlainPoint, PlainRow}
 use Rattle.lhg_row.specs.Values.{marked_value}
 use Rattle.lhg_motion.specs.Segment.{along}

@@ -2,7 +2,8 @@
 use Rattle.std.proofs.Common.{◌≡◌, ◌⊎◌, ◌↔◌, inl, inr, true, false, List, [], ◌∷◌, length, Option, Some, None, refl, sym, ap, ◌∙◌, subst}
 use Rattle.lhg_math.specs.Number.{Number, lt, nought, unit, mid}
 use Rattle.lhg_math.specs.NumberOrder.{lt_irrefl, lt_antisymm, lt_asym, lt_trans, nought_unit}
-use Rattle.lhg_math.specs.Places.{IsPlace, start_place, end_place}
+use Rattle.lhg_math.specs.Places.{IsPlace}
+use Rattle.lhg_math.specs.PlacesLaws.{start_place, end_place}
 use Rattle.lhg_math.specs.Tests.{AllOf, by_bool}
 use Rattle.lhg_row.specs.Decisions.{clash}
 use Rattle.lhg_row.specs.Members.{SomeOf, all_some}

@@ -3,7 +3,7 @@ use Rattle.std.proofs.Common.{◌≡◌, true, false, [], ◌∷◌, length, Opt
 use Rattle.lhg_math.specs.Number.{Number, add, sub, neg, lt, nought, unit, quot}
 use Rattle.lhg_math.specs.NumberRing.{sums, sub_is, add-neg, add-nought, mul_comm}
 use Rattle.lhg_math.specs.NumberOrder.{lt_asym, lt_irrefl, lt_antisymm, lt-difference, difference-lt}
-use Rattle.lhg_math.specs.Interpolate.{interpolate_is}
+use Rattle.lhg_math.specs.InterpolateLaws.{interpolate_is}
 use Rattle.lhg_math.specs.Crossings.{level_once}
 use Rattle.lhg_math.specs.Places.{IsPlace}
 use Rattle.lhg_math.specs.Quotients.{mul-quot}

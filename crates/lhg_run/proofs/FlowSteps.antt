@@ -12,12 +12,13 @@ use Rattle.lhg_plant.specs.Legal.{HasSide}
 use Rattle.lhg_plant.specs.OutBack.{StaysBy}
 use Rattle.lhg_plant.specs.Proper.{IsProper}
 use Rattle.lhg_plant.specs.Inside.{IsRegionInside}
-use Rattle.lhg_plant.specs.Pick.{picked_result}
+use Rattle.lhg_plant.specs.Pick.{picked_result, picks}
 use Rattle.lhg_plant.specs.Region.{InRegion, InGuard}
 use Rattle.lhg_plant.specs.Controller.{PlainController, IsValid}
-use Rattle.lhg_plant.specs.Run.{flowed, switched, landed, result_at, state_along, run_flow, StopsAt, StopsFlow, PicksFlow}
+use Rattle.lhg_plant.specs.Run.{flowed, switched, landed, state_along, run_flow, StopsAt, StopsFlow, PicksFlow}
+use Rattle.lhg_plant.specs.Choice.{result_at}
 use Rattle.lhg_plant.proofs.Options.{find_some, there_some, some_there}
-use Rattle.lhg_plant.proofs.Picks.{picked_found}
+use Rattle.lhg_plant.proofs.Picks.{picks_legal}
 use Rattle.lhg_run.specs.Numbers.{HasWideStop, HasLongStop}
 use Rattle.lhg_run.specs.Seen.{MayTake, IsStopDone, IsWideStop, IsLongStop, IsPicked, steps_to}
 use Rattle.lhg_run.specs.Views.{plain_place}
@@ -29,7 +30,7 @@ module _ (a : PlainPlant) (c : PlainController) (valid : IsValid a c) (proper : 
   taken_by : (side : Side) (e : ℕ) (z : PlainState) → HasSide a e side → StaysBy side a (InRegion a c.region) e z → MayTake a c z e
   taken_by Ctl e z h k = inl h
   taken_by Env e z h k = absurd k
-  taken_by Pick e z h k = let f = picked_found a c.region proper inside e z k.0 k.1 k.2 in inr (h, f.0, f.1)
+  taken_by Pick e z h k = let f = (picks_legal a c.region proper inside).found e z k.0 k.1 k.2 in inr (h, f.0, f.1)
 
   -- so does one whose guard holds
   pub guard_taken : (e : ℕ) (z : PlainState) → InGuard a c.guards e z → MayTake a c z e
@@ -51,7 +52,7 @@ module _ (a : PlainPlant) (c : PlainController) (s : PlainState) (t : Number) (y
 
   -- a stop does what the run does
   pub stop_does : (done : Done) → IsStopDone a c s t stop done
-      → StopsFlow a c s t y (plain_steps done.steps.items) (plain_place done.state done.pending) ⊎ PicksFlow a c s t y (plain_steps done.steps.items) (plain_place done.state done.pending)
+      → StopsFlow a c s t y (plain_steps done.steps.items) (plain_place done.state done.pending) ⊎ PicksFlow (picks a c.region) a c s t y (plain_steps done.steps.items) (plain_place done.state done.pending)
   stop_does done (inl h) = inl (record {
     place = stop.place;
     switch = stop.switch;

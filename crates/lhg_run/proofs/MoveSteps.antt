@@ -7,7 +7,8 @@ use Rattle.lhg_plant.specs.Plant.{PlainPlant, PlainSwitch}
 use Rattle.lhg_plant.specs.State.{PlainState}
 use Rattle.lhg_plant.specs.Legal.{HasSide, LegalSwitch, LegalSwitchTo}
 use Rattle.lhg_plant.specs.Controller.{PlainController}
-use Rattle.lhg_plant.specs.Run.{PlainStep, landed, env_switched, resting, target_in, result_at, env_entry, land_entry}
+use Rattle.lhg_plant.specs.Run.{PlainStep, landed, env_switched, resting, env_entry, land_entry}
+use Rattle.lhg_plant.specs.Choice.{target_in, result_at}
 use Rattle.lhg_plant.specs.Views.{plain_switch}
 use Rattle.lhg_run.specs.Seen.{Course, IsTaken, plain_done}
 use Rattle.lhg_run.specs.declared.doing.Done.{Done}

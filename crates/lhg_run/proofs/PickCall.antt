@@ -18,7 +18,8 @@ use Rattle.lhg_plant.specs.Pick.{first_result, pick_by, picked_result}
 use Rattle.lhg_plant.specs.Proper.{IsSwitch, IsProper}
 use Rattle.lhg_plant.specs.Region.{PlainRegion}
 use Rattle.lhg_plant.specs.Controller.{PlainController}
-use Rattle.lhg_plant.specs.Run.{PlainStep, switched, landed, RunPlace, resting, result_at}
+use Rattle.lhg_plant.specs.Run.{PlainStep, switched, landed, RunPlace, resting}
+use Rattle.lhg_plant.specs.Choice.{result_at}
 use Rattle.lhg_plant.specs.Views.{plain_state}
 use Rattle.lhg_plant.proofs.Options.{some_there, there_some}
 use Rattle.lhg_plant.proofs.Picks.{all_at}

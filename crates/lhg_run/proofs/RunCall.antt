@@ -8,6 +8,7 @@ use Rattle.lhg_num.specs.declared.refusals.Halt.TheVariants.{Wide, Rows, Pieces,
 use Rattle.lhg_plant.specs.Plant.{PlainPlant}
 use Rattle.lhg_plant.specs.State.{PlainState}
 use Rattle.lhg_plant.specs.Controller.{PlainController}
+use Rattle.lhg_plant.specs.Pick.{picks}
 use Rattle.lhg_plant.specs.Run.{PlainEntry, PlainStep, RunPlace, IsLegalEntry, IsRun}
 use Rattle.lhg_plant.specs.Log.{IsFirstIllegal}
 use Rattle.lhg_plant.proofs.StaysInside.{IsKept}
@@ -57,13 +58,13 @@ pub kept-standing : (a : PlainPlant) (c : PlainController) (r : Running) → IsK
 kept-standing a c r h = record { inside = h.inside; pending = λ e k. there_short a.switches e (λ w. w.from ≡ r.state.loc) (h.pending e k).leaves }
 
 module _ (a : PlainPlant) (c : PlainController) (start : PlainState) (entries : List PlainEntry) (k : ℕ) (entry : PlainEntry) (is : slice_get entries k ≡ Some entry)
-    (trace : List PlainStep) (place : RunPlace) (run : IsRun a c start (take k entries) trace place) where
+    (trace : List PlainStep) (place : RunPlace) (run : IsRun (picks a c.region) a c start (take k entries) trace place) where
   -- the entry is the first that is not legal
-  pub illegal-at : ¬ IsLegalEntry a place entry → (n : ℕ) → n ≡ k + 1 → (told : List PlainStep) → told ≡ trace → IsFirstIllegal a c start entries n × IsTraceBefore a c start entries n told
+  pub illegal-at : ¬ IsLegalEntry a place entry → (n : ℕ) → n ≡ k + 1 → (told : List PlainStep) → told ≡ trace → IsFirstIllegal (picks a c.region) a c start entries n × IsTraceBefore a c start entries n told
   illegal-at not n e told f =
       let number : n ≡ suc k = e ∙ add-one k in
-      subst (λ m. IsFirstIllegal a c start entries m × IsTraceBefore a c start entries m told) (sym number)
-      (run-illegal a c k start entries trace place entry run is not, (place, subst (λ w. IsRun a c start (take k entries) w place) (sym f) run))
+      subst (λ m. IsFirstIllegal (picks a c.region) a c start entries m × IsTraceBefore a c start entries m told) (sym number)
+      (run-illegal a c k start entries trace place entry run is not, (place, subst (λ w. IsRun (picks a c.region) a c start (take k entries) w place) (sym f) run))
 
   -- a number or a list of the entry is refused
   halted-for : (halt : Halt) (P : Bool → Type 0) → IsAnswered {T = Bool} (Err halt) P (IsWideEntry a c place entry) (IsLongEntry a c place entry) → IsStop a c start entries (stop_for (suc k) halt)

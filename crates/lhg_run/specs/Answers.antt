@@ -6,6 +6,7 @@ use Rattle.lhg_plant.specs.Plant.{PlainPlant}
 use Rattle.lhg_plant.specs.State.{PlainState}
 use Rattle.lhg_plant.specs.Region.{InRegion}
 use Rattle.lhg_plant.specs.Controller.{PlainController}
+use Rattle.lhg_plant.specs.Pick.{picks}
 use Rattle.lhg_plant.specs.Run.{PlainEntry, PlainStep, RunPlace, IsRun}
 use Rattle.lhg_plant.specs.Log.{IsLegalLog, EachVisited}
 
@@ -20,11 +21,11 @@ IsAnswered (Err Memory) P wide rows = Unit {0}
 -- the trace is that of a run of the whole log, which is legal, and all states that it visits are in the region
 pub record IsTraceOf (a : PlainPlant) (c : PlainController) (start : PlainState) (entries : List PlainEntry) (trace : List PlainStep) : Type 0 where
   pub last : RunPlace
-  pub run : IsRun a c start entries trace last
-  pub legal : IsLegalLog a c start entries
+  pub run : IsRun (picks a c.region) a c start entries trace last
+  pub legal : IsLegalLog (picks a c.region) a c start entries
   pub inside : EachVisited (InRegion a c.region) start trace
 
 -- the trace of the entries before entry k, counted from 1; before the start, 0, there is none
 abbrev pub IsTraceBefore : PlainPlant → PlainController → PlainState → List PlainEntry → ℕ → List PlainStep → Type 0
 IsTraceBefore a c start entries zero trace = trace ≡ []
-IsTraceBefore a c start entries (suc k) trace = (last : RunPlace) × IsRun a c start (take k entries) trace last
+IsTraceBefore a c start entries (suc k) trace = (last : RunPlace) × IsRun (picks a c.region) a c start (take k entries) trace last

@@ -12,7 +12,7 @@ use Rattle.lhg_plant.specs.State.{PlainState}
 use Rattle.lhg_plant.specs.Legal.{LegalFlow, HasSide}
 use Rattle.lhg_plant.specs.LegalTruths.{legal_flow_truth, legal_switch_truth}
 use Rattle.lhg_plant.specs.Controller.{PlainController}
-use Rattle.lhg_plant.specs.Pick.{picked_result}
+use Rattle.lhg_plant.specs.Pick.{picked_result, picks}
 use Rattle.lhg_plant.specs.Run.{PlainEntry, flow_entry, env_entry, land_entry, PlainStep, RunPlace, run_rows, IsCheckOf, state_along, StopsAt, IsRun}
 
 -- whether the rows of the region's pieces in the location hold at the state
@@ -71,7 +71,7 @@ IsLongEntry a c r (land_entry y) = ⊥
 -- the run of the first k entries ends at the place
 pub record StandsAt (a : PlainPlant) (c : PlainController) (start : PlainState) (entries : List PlainEntry) (k : ℕ) (r : RunPlace) : Type 0 where
   pub trace : List PlainStep
-  pub run : IsRun a c start (take k entries) trace r
+  pub run : IsRun (picks a c.region) a c start (take k entries) trace r
 
 -- entry k, counted from 0, has the fact where the run stands at its turn
 pub record AtTurn (a : PlainPlant) (c : PlainController) (start : PlainState) (entries : List PlainEntry) (k : ℕ) (P : RunPlace → PlainEntry → Type 0) : Type 0 where

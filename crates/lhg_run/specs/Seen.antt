@@ -12,11 +12,12 @@ use Rattle.lhg_plant.specs.declared.plants.Side.TheVariants.{Ctl, Pick}
 use Rattle.lhg_plant.specs.Plant.{PlainPlant}
 use Rattle.lhg_plant.specs.State.{PlainState, moved_to}
 use Rattle.lhg_plant.specs.Legal.{HasSide}
-use Rattle.lhg_plant.specs.Pick.{picked_result}
+use Rattle.lhg_plant.specs.Pick.{picked_result, picks}
 use Rattle.lhg_plant.specs.Region.{PlainGuards, InRegion, InSomeGuard}
 use Rattle.lhg_plant.specs.Controller.{PlainController}
 use Rattle.lhg_plant.specs.Views.{plain_state}
-use Rattle.lhg_plant.specs.Run.{PlainEntry, PlainStep, started, flowed, switched, landed, RunPlace, resting, result_at, state_along, PassesWhole, IsFirstGuard, StopsAt, IsLegalEntry, DoesEntry}
+use Rattle.lhg_plant.specs.Run.{PlainEntry, PlainStep, started, flowed, switched, landed, RunPlace, resting, state_along, PassesWhole, IsFirstGuard, StopsAt, IsLegalEntry, DoesEntry}
+use Rattle.lhg_plant.specs.Choice.{result_at}
 use Rattle.lhg_run.specs.Views.{plain_place}
 use Rattle.lhg_run.specs.declared.doing.Done.{Done}
 use Rattle.lhg_run.specs.declared.running.Running.{Running}
@@ -118,7 +119,7 @@ IsLongStop a c s stop = HasSide a stop.switch Pick × ((picked_result a c.region
 
 -- what the entry does where the run stands
 abbrev pub IsDone : PlainPlant → PlainController → RunPlace → PlainEntry → Done → Type 0
-IsDone a c r entry done = DoesEntry a c r entry (plain_steps done.steps.items) (plain_place done.state done.pending)
+IsDone a c r entry done = DoesEntry (picks a c.region) a c r entry (plain_steps done.steps.items) (plain_place done.state done.pending)
 
 -- what the entry does, where it is legal
 abbrev pub IsTaken : PlainPlant → PlainController → RunPlace → PlainEntry → Option Done → Type 0
@@ -129,7 +130,7 @@ IsTaken a c r entry (Some done) = IsLegalEntry a r entry × IsDone a c r entry d
 abbrev pub IsStep : PlainPlant → PlainController → PlainEntry → Running → Running → Bool → Type 0
 IsStep a c entry old new true =
     IsLegalEntry a (running_place old) entry
-    × ((more : List PlainStep) × DoesEntry a c (running_place old) entry more (running_place new) × (plain_steps new.steps.items ≡ plain_steps old.steps.items ++ more))
+    × ((more : List PlainStep) × DoesEntry (picks a c.region) a c (running_place old) entry more (running_place new) × (plain_steps new.steps.items ≡ plain_steps old.steps.items ++ more))
 IsStep a c entry old new false = (¬ IsLegalEntry a (running_place old) entry) × (plain_steps new.steps.items ≡ plain_steps old.steps.items)
 
 -- the run is at its start, which is in the region, with no switch pending

@@ -1,5 +1,5 @@
 use Rattle.std.proofs.Common.{arith}
-use Rattle.lhg_row.proofs.Steps.{wide_on}
+use Rattle.lhg_num.specs.AnswerLaws.{wide_on}
 use Rattle.lhg_plant.proofs.ChangeSteps.{change-step, change-part}
 use Rattle.lhg_plant.proofs.flow_rows.change.Goals as goal
 

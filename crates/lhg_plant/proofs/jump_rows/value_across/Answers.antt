@@ -2,7 +2,7 @@ use Rattle.std.proofs.Common.{◌≡◌, true, length, map, take, subst}
 use Rattle.lhg_math.specs.Number.{nought}
 use Rattle.lhg_num.specs.Halting.{IsWideBy}
 use Rattle.lhg_row.specs.Values.{marked_value}
-use Rattle.lhg_row.proofs.Steps.{wide_on}
+use Rattle.lhg_num.specs.AnswerLaws.{wide_on}
 use Rattle.lhg_plant.proofs.AcrossSteps.{front, front-part, back-rest, rest_answers}
 use Rattle.lhg_plant.proofs.jump_rows.value_across.Goals as goal
 

@@ -5,11 +5,11 @@ use Rattle.lhg_plant.proofs.LogDecided.{log_decided, legal_or_illegal, first_ill
 use Rattle.lhg_plant.proofs.laws.law_run.Goals as goal
 
 pub returns : goal.returns
-returns c = λ a k. record {
-  answered = λ proper inside valid. stays a k valid (λ e side. (proper, inside));
-  inside = λ proper inside valid. run_inside a k valid (λ e side. (proper, inside));
-  determined = run_once a k;
-  decided = λ proper inside valid. log_decided a k valid (λ e side. (proper, inside));
-  exclusive = legal_or_illegal a k;
-  one_illegal = first_illegal_once a k;
+returns c = λ choice a k. record {
+  answered = λ fit valid. stays choice a k valid fit;
+  inside = λ fit valid. run_inside choice a k valid fit;
+  determined = run_once choice a k;
+  decided = λ fit valid. log_decided choice a k valid fit;
+  exclusive = legal_or_illegal choice a k;
+  one_illegal = first_illegal_once choice a k;
 }

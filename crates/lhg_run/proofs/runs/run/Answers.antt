@@ -2,6 +2,7 @@ use Rattle.std.proofs.Common.{◌≤◌, ◌++◌, ◌∷◌, [], length, take, 
 use Rattle.std.proofs.lemmas.List.{length-map, take_all}
 use Rattle.lhg_play.specs.Views.{plain_steps}
 use Rattle.lhg_plant.specs.Views.{plain_plant, plain_state}
+use Rattle.lhg_plant.proofs.Picks.{picks_legal}
 use Rattle.lhg_ctl.specs.Views.{plain_controller}
 use Rattle.lhg_run.specs.Seen.{running_place, IsStep}
 use Rattle.lhg_run.specs.Stop.{IsStop}
@@ -64,7 +65,7 @@ loop-i-preserved c =
     let new = c.step.new.running in
     let h = c.in-Ok-true.ensures in
     let told : IsStep a k (plain_entry entry) old new true = subst (IsStep a k (plain_entry entry) old new) c.in-Ok-true.field-0-test h in
-    let more = running-more a k c.requires.valid (λ e side. (c.args.plant.now.proper, c.requires.inside)) start (take i entries) (plain_steps old.steps.items) (running_place old) (plain_entry entry) told.1.0 (running_place new) c.loop-i.invariant told.0 told.1.1 in
+    let more = running-more a k c.requires.valid (picks_legal a k.region c.args.plant.now.proper c.requires.inside) start (take i entries) (plain_steps old.steps.items) (running_place old) (plain_entry entry) told.1.0 (running_place new) c.loop-i.invariant told.0 told.1.1 in
     subst (λ es. IsRunning a k start es (plain_steps new.steps.items) (running_place new)) (sym (take-entry entries i (plain_entry entry) is))
     (subst (λ us. IsRunning a k start (take i entries ++ plain_entry entry ∷ []) us (running_place new)) (sym told.1.2) more)
 
@@ -79,5 +80,5 @@ returns-clause-trace c =
     let old = c.loop-i.running in
     let size = length-map log plain_entry in
     let past : length entries ≤ i = omega (arith, size, c.loop-i-test.false) in
-    running-end a k c.requires.valid (λ e side. (c.args.plant.now.proper, c.requires.inside)) start entries (plain_steps old.steps.items) (running_place old)
+    running-end a k c.requires.valid (picks_legal a k.region c.args.plant.now.proper c.requires.inside) start entries (plain_steps old.steps.items) (running_place old)
     (subst (λ es. IsRunning a k start es (plain_steps old.steps.items) (running_place old)) (take_all i entries past) c.loop-i.invariant)

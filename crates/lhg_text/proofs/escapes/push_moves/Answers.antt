@@ -1,6 +1,6 @@
 use Rattle.lhg_plant.specs.Views.{plain_plant}
 use Rattle.lhg_play.specs.Views.{plain_move}
-use Rattle.lhg_row_text.proofs.Members.{all_map_at}
+use Rattle.lhg_math.specs.ListFacts.{all_map_at}
 use Rattle.lhg_text.specs.EscapeText.{IsFittingMove}
 use Rattle.lhg_text.proofs.escapes.push_moves.Goals as goal
 

@@ -3,7 +3,7 @@ use Rattle.lhg_plant.specs.Views.{plain_plant}
 use Rattle.lhg_loss.specs.declared.losses.Loss.{Loss}
 use Rattle.lhg_loss.specs.Views.{plain_loss}
 use Rattle.lhg_union.proofs.ListFacts.{all_at}
-use Rattle.lhg_row_text.proofs.Members.{all_map_at}
+use Rattle.lhg_math.specs.ListFacts.{all_map_at}
 use Rattle.lhg_text.specs.ReportConditions.{IsPlacedLoss}
 use Rattle.lhg_text.proofs.losses.push_losses.Goals as goal
 

@@ -1,7 +1,7 @@
 use Rattle.std.proofs.Common.{length}
 use Rattle.lhg_plant.specs.Proper.{IsLocation}
 use Rattle.lhg_plant.specs.Views.{plain_location}
-use Rattle.lhg_row_text.proofs.Members.{all_map_at}
+use Rattle.lhg_math.specs.ListFacts.{all_map_at}
 use Rattle.lhg_text.proofs.plants.push_locations.Goals as goal
 
 pub push_location-requires : goal.push_location-requires

@@ -1,6 +1,6 @@
 use Rattle.std.proofs.Common.{length, sym, subst}
 use Rattle.lhg_row.specs.Width.{AllWide}
-use Rattle.lhg_row_text.proofs.Members.{all_map_at}
+use Rattle.lhg_math.specs.ListFacts.{all_map_at}
 use Rattle.lhg_text.proofs.plants.push_safe_lines.Goals as goal
 
 pub push_rows_line-requires : goal.push_rows_line-requires

@@ -1,7 +1,7 @@
 use Rattle.std.proofs.Common.{length}
 use Rattle.lhg_plant.specs.Proper.{IsSwitch}
 use Rattle.lhg_plant.specs.Views.{plain_switch}
-use Rattle.lhg_row_text.proofs.Members.{all_map_at}
+use Rattle.lhg_math.specs.ListFacts.{all_map_at}
 use Rattle.lhg_text.proofs.plants.push_switches.Goals as goal
 
 pub push_switch-requires : goal.push_switch-requires

@@ -1,6 +1,6 @@
 use Rattle.lhg_plant.specs.Views.{plain_plant}
 use Rattle.lhg_play.specs.Views.{plain_step}
-use Rattle.lhg_row_text.proofs.Members.{all_map_at}
+use Rattle.lhg_math.specs.ListFacts.{all_map_at}
 use Rattle.lhg_text.specs.TraceText.{IsPlacedStep}
 use Rattle.lhg_text.proofs.traces.push_steps.Goals as goal
 
