@@ -1,14 +1,16 @@
 -- Steps of the loops that choose rows.
 use Rattle.std.proofs.Common.{◌≡◌, ℕ, zero, suc, ◌+◌, ◌<◌, ◌≤◌, Bool, true, false, List, [], ◌∷◌, ◌++◌, length, take, drop, map, get_or, refl, sym, ap, ◌∙◌, subst, inl, inr, arith, append_assoc, append-nil}
-use Rattle.std.specs.Prelude.{filter, ◌⊎◌, None}
+use Rattle.std.specs.Prelude.{filter, insert, ◌⊎◌, None}
+use Rattle.std.proofs.lemmas.Bool.{and_parts}
 use Rattle.std.proofs.lemmas.List.{take_more, take_all, map-append}
 use Rattle.std.proofs.lemmas.List.Elements.{filter-append}
+use Rattle.lhg_math.specs.Number.{Number}
 use Rattle.lhg_math.specs.Tests.{AllOf, by_bool}
 use Rattle.lhg_num.specs.Arithmetic.{Arithmetic}
 use Rattle.lhg_num.specs.Marked.{each}
-use Rattle.lhg_row.specs.Row.{PlainRow}
-use Rattle.lhg_row.specs.Piece.{PlainPiece}
-use Rattle.lhg_row.specs.Members.{all-append, some_left, some_right}
+use Rattle.lhg_row.specs.Row.{PlainRow, PlainPoint, Holds, holds_at, relaxed}
+use Rattle.lhg_row.specs.Piece.{PlainPiece, InPiece, in_piece}
+use Rattle.lhg_row.specs.Members.{SomeOf, all_some, all-append, some_left, some_right}
 use Rattle.lhg_row.specs.Width.{AllWide}
 use Rattle.std.proofs.lemmas.List.Edits.{length-remove}
 use Rattle.lhg_row.specs.WidthLaws.{append-wide, comb-wide}
@@ -16,12 +18,14 @@ use Rattle.lhg_row.specs.WithoutLaws.{filter-wide}
 use Rattle.lhg_row.specs.Combine.{comb}
 use Rattle.lhg_row.specs.Column.{upper_at, lower_at, level_at, drop_column}
 use Rattle.lhg_row.specs.Eliminate.{each_joined, with_lowers, without}
-use Rattle.lhg_row.proofs.Steps.{drop_cons}
+use Rattle.lhg_math.specs.ListFacts.{drop_cons}
 use Rattle.lhg_elim.proofs.Additive.{joined-additive}
-use Rattle.lhg_prune.specs.Directions.{is_wanted}
-use Rattle.lhg_prune.specs.DirectionLaws.{wanted-more, wanted-last}
 use Rattle.lhg_prune.specs.Grown.{IsGrown}
-use Rattle.lhg_prune.specs.Kept.{IsIn}
+use Rattle.lhg_prune.specs.Chosen.{IsSeated}
+use Rattle.lhg_prune.specs.Seat.{IsIn, IsSeat}
+use Rattle.lhg_prune.specs.SeatLaws.{length-first}
+use Rattle.lhg_prune.specs.Touch.{strictly}
+use Rattle.lhg_row.specs.HasValue.{HasValue, Completes}
 
 -- a filter over the first member and then over the others
 filter-cons : {A : Type 0} (p : A → Bool) (x : A) (xs : List A) → filter p (x ∷ xs) ≡ filter p (x ∷ []) ++ filter p xs
@@ -37,6 +41,65 @@ pub all-item : {A : Type 0} (P : A → Type 0) (xs : List A) (i : ℕ) (x : A) �
 all-item P [] i x e l h = absurd (omega arith)
 all-item P (y ∷ xs) zero x e l h = subst P (sym e) h.0
 all-item P (y ∷ xs) (suc i) x e l h = all-item P xs i x e (omega arith) h.1
+
+-- one member more of those that were looked at
+pub all-taken : {A : Type 0} (P : A → Type 0) (xs : List A) (i : ℕ) (x : A) → x ≡ get_or xs i x → i < length xs → AllOf P (take i xs) → P x → AllOf P (take (i + 1) xs)
+all-taken P xs i x e l h p = subst (AllOf P) (sym (take_more xs i x l ∙ ap (λ z. take i xs ++ z ∷ []) (sym e))) (all-append P (take i xs) (x ∷ []) h (p, tt))
+
+-- all were looked at
+pub all-done : {A : Type 0} (P : A → Type 0) (xs : List A) (i : ℕ) → length xs ≤ i → AllOf P (take i xs) → AllOf P xs
+all-done P xs i l h = subst (AllOf P) (take_all i xs l) h
+
+-- rows that hold, made weak
+pub relaxed-hold : (rows : PlainPiece) (z : PlainPoint) → in_piece (map relaxed rows) z ≡ true → AllOf (λ r. Holds (relaxed r) z) rows
+relaxed-hold [] z h = tt
+relaxed-hold (r ∷ rows) z h = let j = and_parts (holds_at (relaxed r) z) (in_piece (map relaxed rows) z) h in (j.0, relaxed-hold rows z j.1)
+
+-- ---- points
+-- rows fit the first coordinates of points over one variable more
+firsts-fit : (m k : ℕ) (points : List PlainPoint) → m ≡ k → AllOf (λ (z : PlainPoint). length z ≡ k + 1) points → AllOf (λ (c : PlainPoint). m ≡ length c) (map (take k) points)
+firsts-fit m k [] e h = tt
+firsts-fit m k (z ∷ points) e h = (e ∙ sym (length-first z k h.0), firsts-fit m k points e h.1)
+
+pub strict-fit : (k : ℕ) (rows : PlainPiece) (points : List PlainPoint) → AllWide k rows → AllOf (λ (z : PlainPoint). length z ≡ k + 1) points
+    → AllOf (λ (r : PlainRow). AllOf (λ (c : PlainPoint). length r.coefs ≡ length c) (map (take k) points)) (map strictly rows)
+strict-fit k [] points w h = tt
+strict-fit k (r ∷ rows) points w h = (firsts-fit (length r.coefs) k points w.0 h, strict-fit k rows points w.1 h)
+
+-- what fails at the first coordinates of some point
+first-back : (k : ℕ) (r : PlainRow) (points : List PlainPoint) → SomeOf (λ (c : PlainPoint). holds_at r c ≡ false) (map (take k) points) → SomeOf (λ (z : PlainPoint). holds_at r (take k z) ≡ false) points
+first-back k r [] h = absurd h
+first-back k r (z ∷ points) (inl h) = inl h
+first-back k r (z ∷ points) (inr h) = inr (first-back k r points h)
+
+pub tight-back : (k : ℕ) (rows : PlainPiece) (points : List PlainPoint)
+    → AllOf (λ (r : PlainRow). SomeOf (λ (c : PlainPoint). holds_at r c ≡ false) (map (take k) points)) (map strictly rows) → AllOf (λ (r : PlainRow). SomeOf (λ (z : PlainPoint). holds_at (strictly r) (take k z) ≡ false) points) rows
+tight-back k [] points h = tt
+tight-back k (r ∷ rows) points h = (first-back k (strictly r) points h.0, tight-back k rows points h.1)
+
+-- rows without room at points that tell which rows are wanted are seated
+pub all-seated : (a : Arithmetic) (k : ℕ) (before chosen : PlainPiece) (keeps : PlainRow → Bool) (points : List PlainPoint) → AllOf (IsSeat a k before keeps) points
+    → AllOf (λ (r : PlainRow). SomeOf (λ (z : PlainPoint). holds_at (strictly r) (take k z) ≡ false) points) chosen → AllOf (IsSeated a k before keeps) chosen
+all-seated a k before [] keeps points s h = tt
+all-seated a k before (r ∷ chosen) keeps points s h = (
+  all_some (IsSeat a k before keeps) (λ (z : PlainPoint). holds_at (strictly r) (take k z) ≡ false) (IsSeated a k before keeps r) (λ z t f. record { point = z; seat = t; tight = f }) points s h.0,
+  all-seated a k before chosen keeps points s h.1,
+)
+
+-- a point that one coordinate completes has a value
+pub last-value : (k : ℕ) (rows : PlainPiece) (x : PlainPoint) → length x ≡ k → Completes 1 rows x → HasValue k rows x
+last-value k rows x l h = on h.later h.many h.inside
+  where
+    behind : (k : ℕ) (x : PlainPoint) (v : Number) → length x ≡ k → x ++ v ∷ [] ≡ insert x k v
+    behind zero [] v e = refl
+    behind zero (y ∷ x) v e = absurd (omega arith)
+    behind (suc k) [] v e = absurd (omega arith)
+    behind (suc k) (y ∷ x) v e = ap (λ w. y ∷ w) (behind k x v (omega arith))
+
+    on : (later : PlainPoint) → length later ≡ 1 → InPiece rows (x ++ later) → HasValue k rows x
+    on [] e i = absurd (omega arith)
+    on (v ∷ []) e i = record { value = v; holds = subst (InPiece rows) (behind k x v l) i }
+    on (v ∷ w ∷ later) e i = absurd (omega arith)
 
 -- ---- widths
 -- rows without one column are one narrower
@@ -69,57 +132,6 @@ without_none-wide a k m rows h w =
     let combs = (each_joined (with_lowers a k rows) (filter (upper_at k) rows)).value in
     drop-wide k m (filter (level_at k) rows ++ combs) h
     (append-wide (m + 1) (filter (level_at k) rows) combs (filter-wide (m + 1) (level_at k) rows w) (pairs-wide a k (m + 1) rows (filter (upper_at k) rows) w (filter-wide (m + 1) (upper_at k) rows w)))
-
--- ---- wanted directions
-module _ (a : Arithmetic) (Q : PlainRow → Type 0) where
-  -- the row is wanted, or has the fact
-  abbrev pub Asked : PlainPiece → PlainRow → Type 0
-  Asked out r = (is_wanted a out r ≡ true) ⊎ Q r
-
-  -- the rows that were asked for are wanted, or have the fact
-  pub record IsDirecting (n : ℕ) (all out rest : PlainPiece) : Type 0 where
-    pub asked : PlainPiece
-    pub split : asked ++ rest ≡ all
-    pub told : AllOf (Asked out) asked
-    pub wide : AllWide n out
-    pub rest_wide : AllWide n rest
-
-  all_more : (out : PlainPiece) (r : PlainRow) (rows : PlainPiece) → AllOf (Asked out) rows → AllOf (Asked (out ++ r ∷ [])) rows
-  all_more out r [] h = tt
-  all_more out r (q ∷ rows) h = (on h.0, all_more out r rows h.1)
-    where
-      on : Asked out q → Asked (out ++ r ∷ []) q
-      on (inl k) = inl (wanted-more a out (r ∷ []) q k)
-      on (inr k) = inr k
-
-  module _ (n : ℕ) (all out rows : PlainPiece) (r : PlainRow) (rest : PlainPiece) (e : rows ≡ r ∷ rest) (d : IsDirecting n all out rows) where
-    directing-wides : AllWide n (r ∷ rest)
-    directing-wides = subst (AllWide n) e d.rest_wide
-
-    pub directing-width : length r.coefs ≡ n
-    directing-width = directing-wides.0
-
-    pub directing-wide : AllWide (length r.coefs) out
-    directing-wide = subst (λ m. AllWide m out) (sym directing-wides.0) d.wide
-
-    pub directing-step : (new : PlainPiece) → IsGrown (Asked out r) out r new → IsDirecting n all new rest
-    directing-step new g = record {
-      asked = d.asked ++ r ∷ [];
-      split = append_assoc d.asked (r ∷ []) rest ∙ ap (λ rs. d.asked ++ rs) (sym e) ∙ d.split;
-      told = on g;
-      wide = grown-wide n (Asked out r) out new r g directing-wides.0 d.wide;
-      rest_wide = directing-wides.1;
-    }
-      where
-        on : IsGrown (Asked out r) out r new → AllOf (Asked new) (d.asked ++ r ∷ [])
-        on (inl h) = subst (λ ws. AllOf (Asked ws) (d.asked ++ r ∷ [])) (sym h.same) (all-append (Asked out) d.asked (r ∷ []) d.told (h.reason, tt))
-        on (inr h) = subst (λ ws. AllOf (Asked ws) (d.asked ++ r ∷ [])) (sym h)
-            (all-append (Asked (out ++ r ∷ [])) d.asked (r ∷ []) (all_more out r d.asked d.told) (inl (wanted-last a out r), tt))
-
-  pub directing-end : (n : ℕ) (all out rest : PlainPiece) → rest ≡ [] → IsDirecting n all out rest → AllOf (Asked out) all
-  directing-end n all out rest e d =
-      let s : d.asked ≡ all = sym (append-nil d.asked) ∙ ap (λ rs. d.asked ++ rs) (sym e) ∙ d.split in
-      subst (AllOf (Asked out)) s d.told
 
 -- ---- wanted rows
 -- what is there and what is left to choose is what was there and all that is chosen

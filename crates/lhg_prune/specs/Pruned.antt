@@ -1,17 +1,16 @@
 -- Which rows of the last elimination are enough for the piece that a system projects to?
-use Rattle.std.specs.Prelude.{◌≡◌, ℕ, zero, suc, ◌+◌, ◌-◌, ◌<◌, ◌≤◌, Bool, true, false, not, [], ◌∷◌, length, take, drop, filter, Some, None}
+use Rattle.std.specs.Prelude.{◌≡◌, ◌⊎◌, ℕ, zero, suc, ◌+◌, ◌-◌, ◌<◌, ◌≤◌, Bool, true, false, not, [], ◌∷◌, length, take, drop, filter, Some, None}
 use Rattle.std.proofs.Common.{refl, sym, ap, ◌∙◌, arith, subst, inl, inr}
 use Rattle.std.proofs.lemmas.List.{take-append-drop, length-take-le, length-drop}
 use Rattle.std.proofs.lemmas.Bool.{and_parts}
 use Rattle.std.specs.declared.cmp.Ordering.{Ordering}
 use Rattle.std.specs.declared.cmp.Ordering.TheVariants.{Less, Equal, Greater}
-use Rattle.lhg_math.specs.Number.{Number, add, mul, neg, lt, nought}
-use Rattle.lhg_math.specs.NumberRing.{sums}
-use Rattle.lhg_math.specs.NumberOrder.{mul_positive}
+use Rattle.lhg_math.specs.Number.{Number, lt, nought}
+use Rattle.lhg_math.specs.ListFacts.{all-map}
 use Rattle.lhg_math.specs.Tests.{AllOf, by_bool, false_true}
 use Rattle.lhg_num.specs.Arithmetic.{Arithmetic, IsLawful, scaled_multiple}
 use Rattle.lhg_num.specs.Marked.{each}
-use Rattle.lhg_row.specs.Row.{PlainRow, PlainPoint, holds_at, row_with}
+use Rattle.lhg_row.specs.Row.{PlainRow, PlainPoint, Holds, holds_at, relaxed}
 use Rattle.lhg_row.specs.Piece.{PlainPiece, InPiece, in_piece}
 use Rattle.lhg_row.specs.PieceLemmas.{in_piece_is}
 use Rattle.lhg_row.specs.Members.{all-filter}
@@ -19,7 +18,7 @@ use Rattle.lhg_row.specs.Constant.{is_constant, is_true, is_nothing}
 use Rattle.lhg_row.specs.ConstantLaws.{nothing-fails}
 use Rattle.lhg_row.specs.ValueLaws.{scaled_row, holds-scaled}
 use Rattle.lhg_row.specs.Width.{AllWide}
-use Rattle.lhg_row.specs.WidthLaws.{trim-wide, without-wide}
+use Rattle.lhg_row.specs.WidthLaws.{without-wide}
 use Rattle.lhg_row.specs.WithoutLaws.{filter-wide}
 use Rattle.lhg_row.specs.HasValue.{HasPoint, HasValue, IsEmptiness}
 use Rattle.lhg_row.specs.System.{IsSystem}
@@ -32,36 +31,32 @@ use Rattle.lhg_row.specs.Pieces.{are_empty, thin, make, project}
 use Rattle.lhg_row.specs.EntailLaws.{are_empty-exact}
 use Rattle.lhg_row.specs.MakeLaws.{make-thin}
 use Rattle.lhg_elim.specs.SystemLaws.{eliminate_last-system}
-use Rattle.lhg_prune.specs.Loose.{lowered, IsLoose}
-use Rattle.lhg_prune.specs.FilterLaws.{IsKeptOrLoose}
 use Rattle.lhg_prune.specs.ThinLaws.{thin-filter}
-use Rattle.lhg_prune.specs.Directions.{IsByDirection}
-use Rattle.lhg_prune.specs.TrimFilter.{trim-filter, settled-gathered, test-canon, no_false}
+use Rattle.lhg_prune.specs.Directions.{IsByDirection, is_wanted}
+use Rattle.lhg_prune.specs.DirectionLaws.{wanted-by_direction}
+use Rattle.lhg_prune.specs.TrimFilter.{trim-filter, settled-gathered, no_false}
 use Rattle.lhg_prune.specs.Pruning.{IsPruning}
-use Rattle.lhg_prune.specs.Kept.{IsLooseOrFirm, all-each, formed_told}
+use Rattle.lhg_prune.specs.Touch.{strictly, IsTouchedBy, IsTouched, AreEnough}
+use Rattle.lhg_prune.specs.Chosen.{IsSeated, IsChosen}
+use Rattle.lhg_prune.specs.SeatLaws.{all-each, seat_told}
 
--- ---- trim of rows that are kept or loose
-pub lowered_multiple : (k b d : Number) → add (mul k b) (neg (mul k d)) ≡ mul k (add b (neg d))
-lowered_multiple k b d = simp sums
+-- ---- trim of rows that are touched
+-- a positive multiple of a row holds weakly, and has room, where the row does
+pub multiple_touched : (a : Arithmetic) (keeps : PlainRow → Bool) → IsByDirection a keeps → (c : PlainPoint) (k : Number) (r : PlainRow) → lt nought k ≡ true → IsTouchedBy keeps c r → IsTouchedBy keeps c (scaled_row k r)
+multiple_touched a keeps by c k r h t = record { weak = holds-scaled k (relaxed r) c h ∙ t.weak; room = on t.room }
+  where
+    on : (keeps r ≡ true) ⊎ Holds (strictly r) c → (keeps (scaled_row k r) ≡ true) ⊎ Holds (strictly (scaled_row k r)) c
+    on (inl e) = inl (by.multiple k r h ∙ e)
+    on (inr e) = inr (holds-scaled k (strictly r) c h ∙ e)
 
--- a positive multiple of a loose row is loose
-pub loose_multiple : (n : ℕ) (rows : PlainPiece) (k : Number) (r : PlainRow) → lt nought k ≡ true → IsLoose n rows r → IsLoose n rows (scaled_row k r)
-loose_multiple n rows k r h f = record {
-  by = mul k f.by;
-  positive = mul_positive k f.by h f.positive;
-  holds = λ x l i.
-      ap (λ b. holds_at (row_with (scaled_row k r).coefs false b) x) (lowered_multiple k r.bound f.by) ∙ holds-scaled k (lowered f.by r) x h ∙ f.holds x l i;
-}
-
-module _ (a : Arithmetic) (n : ℕ) (points : PlainPiece) (keeps : PlainRow → Bool) (by : IsByDirection a keeps) (laws : IsLawful a) where
+module _ (a : Arithmetic) (keeps : PlainRow → Bool) (by : IsByDirection a keeps) (laws : IsLawful a) (c : PlainPoint) where
   abbrev Told : PlainRow → Type 0
-  Told r = IsKeptOrLoose n points keeps r
+  Told r = IsTouchedBy keeps c r
 
   canon_told : (r : PlainRow) → Told r → Told (canon a r).value
-  canon_told r (inl h) = inl (test-canon a keeps by laws r ∙ h)
-  canon_told r (inr h) =
-      by_bool (is_constant r) (λ e. rw e (inr h))
-      (λ e. let m = scaled_multiple a (entries_of r) laws in rw e (inr (subst (IsLoose n points) (sym (row_of-canon a r laws)) (loose_multiple n points m.factor r m.positive h))))
+  canon_told r h =
+      by_bool (is_constant r) (λ e. rw e h)
+      (λ e. let m = scaled_multiple a (entries_of r) laws in rw e (subst Told (sym (row_of-canon a r laws)) (multiple_touched a keeps by c m.factor r m.positive h)))
 
   canons_told : (rows : PlainPiece) → AllOf Told rows → AllOf (λ r. Told (canon a r).value) rows
   canons_told [] h = tt
@@ -69,11 +64,14 @@ module _ (a : Arithmetic) (n : ℕ) (points : PlainPiece) (keeps : PlainRow → 
 
   tighter_told : (o : Ordering) (s r : PlainRow) → Told s → Told r → Told (tighter o s r)
   tighter_told Less s r h k = k
-  tighter_told Equal s r (inl h) k = inl (by.coefs (tighter Equal s r) s refl ∙ h)
-  tighter_told Equal s r (inr h) k = inr (record { by = h.by; positive = h.positive; holds = h.holds })
+  tighter_told Equal s r h k = record { weak = h.weak; room = on h.room }
+    where
+      on : (keeps s ≡ true) ⊎ Holds (strictly s) c → (keeps (tighter Equal s r) ≡ true) ⊎ Holds (strictly (tighter Equal s r)) c
+      on (inl e) = inl (by.coefs (tighter Equal s r) s refl ∙ e)
+      on (inr e) = inr e
   tighter_told Greater s r h k = h
 
-  -- what trim leaves of such rows is kept or loose
+  -- what trim leaves of such rows
   trim_told : (rows : PlainPiece) (x : PlainPoint) → in_piece rows x ≡ true → AllOf Told rows → AllOf Told (trim a rows).value
   unfolding trim
   trim_told rows x i h =
@@ -102,15 +100,15 @@ fewer_hold keeps x (r ∷ rows) i =
 pub filter-trimmed : (a : Arithmetic) (n : ℕ) (rows : PlainPiece) → IsLawful a → (keeps : PlainRow → Bool) → IsByDirection a keeps → IsTrimmed a rows → HasPoint n rows → IsTrimmed a (filter keeps rows)
 filter-trimmed a n rows laws keeps by t p = trim-filter a keeps by laws rows p.point ((in_piece_is rows p.point).0 p.holds) ∙ ap (filter keeps) t
 
--- and make its piece, where the others are loose
-pub thin_piece : (a : Arithmetic) (n : ℕ) → IsLawful a → (rows : PlainPiece) (keeps : PlainRow → Bool) → IsByDirection a keeps → IsSystem a n rows → HasPoint n rows → AllOf (IsKeptOrLoose n rows keeps) rows
+-- and make its piece, where they are enough
+pub thin_piece : (a : Arithmetic) (n : ℕ) → IsLawful a → (rows : PlainPiece) (keeps : PlainRow → Bool) → IsByDirection a keeps → IsSystem a n rows → HasPoint n rows → AreEnough n rows keeps
     → (make a n rows).value ≡ (make a n (filter keeps rows)).value
-thin_piece a n laws rows keeps by s p told =
+thin_piece a n laws rows keeps by s p enough =
     let fewer = filter keeps rows in
     let pf : HasPoint n fewer = record { point = p.point; wide = p.wide; holds = (in_piece_is fewer p.point).1 (fewer_hold keeps p.point rows ((in_piece_is rows p.point).0 p.holds)) } in
     make-thin a n rows (not_empty a n rows laws s.wide p)
     ∙ ap (λ rs. Some (thin a n (length rs) rs).value) s.trimmed
-    ∙ ap Some (thin-filter a n laws rows p keeps s.wide told)
+    ∙ ap Some (thin-filter a n laws rows keeps enough s.wide)
     ∙ ap (λ rs. Some (thin a n (length rs) rs).value) (sym (filter-trimmed a n rows laws keeps by s.trimmed p))
     ∙ sym (make-thin a n fewer (not_empty a n fewer laws (filter-wide n keeps rows s.wide) pf))
 
@@ -137,8 +135,22 @@ point_left a kept count n rows laws e w p =
           (record { later = drop kept z; many = length-drop kept z ∙ omega (arith, e, p.wide); inside = subst (InPiece rows) (sym (take-append-drop kept z)) p.holds });
     }
 
-module _ (a : Arithmetic) (keep : ℕ) (laws : IsLawful a) (before firm : PlainPiece) (w : AllWide (keep + 1) before) (some : HasPoint (keep + 1) before) (alone : (pair_at a keep 0 before).value ≡ None)
-    (keeps : PlainRow → Bool) (by : IsByDirection a keeps) (told : AllOf (IsLooseOrFirm (keep + 1) before firm) before) where
+-- the rows before the last elimination are over one variable more
+pub before-wide : (a : Arithmetic) (n keep : ℕ) (rows before : PlainPiece) → IsLawful a → keep < n → AllWide n rows → before ≡ (eliminate_last a (keep + 1) (n - (keep + 1)) rows).value → AllWide (keep + 1) before
+before-wide a n keep rows before laws h w is =
+    let first : n ≡ keep + 1 + (n - (keep + 1)) = omega (arith, h) in
+    subst (AllWide (keep + 1)) (sym is) (eliminate_last-wide a (keep + 1) (n - (keep + 1)) n rows laws first w)
+
+-- what a test leaves out of a list is told of the rows that pass it
+all_passed : (Q : PlainRow → Type 0) (keeps : PlainRow → Bool) (rows : PlainPiece) → AllOf Q (filter keeps rows) → AllOf (λ r. keeps r ≡ true → Q r) rows
+all_passed Q keeps [] h = tt
+all_passed Q keeps (r ∷ rows) h =
+    by_bool (keeps r)
+    (λ e. let g : Q r × AllOf Q (filter keeps rows) = rw e at h in ((λ f. g.0), all_passed Q keeps rows g.1))
+    (λ e. let g : AllOf Q (filter keeps rows) = rw e at h in ((λ f. false_true (sym e ∙ f)), all_passed Q keeps rows g))
+
+module _ (a : Arithmetic) (keep : ℕ) (laws : IsLawful a) (before : PlainPiece) (w : AllWide (keep + 1) before) (some : HasPoint (keep + 1) before) (alone : (pair_at a keep 0 before).value ≡ None)
+    (keeps : PlainRow → Bool) (by : IsByDirection a keeps) where
   abbrev formed : PlainPiece
   formed = (without a keep before None).value
 
@@ -162,46 +174,58 @@ module _ (a : Arithmetic) (keep : ℕ) (laws : IsLawful a) (before firm : PlainP
   formed-wide : AllWide keep formed
   formed-wide = subst (λ o. AllWide keep (without a keep before o).value) alone (without-wide a keep keep before (omega arith) wide)
 
-  left-wide : AllWide keep left
-  left-wide = trim-wide a keep formed laws formed-wide
-
-  points : (x : PlainPoint) → length x ≡ keep → InPiece left x → HasValue keep before x
-  points x l i = (eliminate-exact a keep (suc keep) before x laws (omega arith) (ap suc (sym l)) wide).0 (subst (λ rs. InPiece rs x) (sym elimination) i)
+  -- the points of what is left are those that some value completes
+  points : (x : PlainPoint) → length x ≡ keep → HasValue keep before x → in_piece left x ≡ true
+  points x l h = (in_piece_is left x).0 (subst (λ rs. InPiece rs x) elimination ((eliminate-exact a keep (suc keep) before x laws (omega arith) (ap suc (sym l)) wide).1 h))
 
   module _ (p : HasPoint keep left) where
     -- the point is one of what is formed
     formed_there : in_piece formed p.point ≡ true
     formed_there = sym (trim-holds a formed p.point laws) ∙ (in_piece_is left p.point).0 p.holds
 
-    all_told : AllOf (IsKeptOrLoose keep left keeps) (without a keep firm None).value → AllOf (IsKeptOrLoose keep left keeps) left
-    all_told kept =
-        let t = subst (λ m. AllOf (IsLooseOrFirm m before firm) before) more told in
-        trim_told a keep left keeps by laws formed p.point formed_there (formed_told a keep keep before left firm keeps (omega arith) points kept wide t)
+    -- a seated row is touched
+    touched : (r : PlainRow) → IsSeated a keep before keeps r → IsTouched keep left keeps r
+    touched r s =
+        let t = seat_told a keep before keeps s.point wide s.seat in
+        record {
+          point = take keep s.point;
+          wide = t.0;
+          touches = trim_told a keeps by laws (take keep s.point) formed p.point formed_there t.1;
+          tight = s.tight;
+        }
 
--- the trim of the rows that are kept is a pruning
-pub pruned-is : (a : Arithmetic) (n keep : ℕ) (rows before firm : PlainPiece) → IsLawful a → keep < n → AllWide n rows → HasPoint n rows
-    → before ≡ (eliminate_last a (keep + 1) (n - (keep + 1)) rows).value → (pair_at a keep 0 before).value ≡ None
-    → (keeps : PlainRow → Bool) → IsByDirection a keeps → AllOf (IsLooseOrFirm (keep + 1) before firm) before
-    → AllOf (IsKeptOrLoose keep (eliminate_last a keep (n - keep) rows).value keeps) (without a keep firm None).value
-    → IsPruning a n keep rows (trim a (filter keeps (without a keep before None).value)).value
-pruned-is a n keep rows before firm laws h w p e alone keeps by told kept =
+    -- so are all that pass the test, if each of these is seated
+    pub enough : (chosen : PlainPiece) → chosen ≡ filter keeps left → ((x : PlainPoint) → length x ≡ keep → in_piece chosen x ≡ true → HasValue keep before x) → AllOf (IsSeated a keep before keeps) chosen
+        → AreEnough keep left keeps
+    enough chosen is few seated = record {
+      points = λ x l i. points x l (few x l (ap (λ rs. in_piece rs x) is ∙ i));
+      touched = all_passed (IsTouched keep left keeps) keeps left (all-map (IsSeated a keep before keeps) (IsTouched keep left keeps) touched (filter keeps left) (subst (AllOf (IsSeated a keep before keeps)) is seated));
+    }
+
+-- the rows that are chosen are a pruning
+pub chosen-pruning : (a : Arithmetic) (n keep : ℕ) (rows before chosen : PlainPiece) → IsLawful a → keep < n → AllWide n rows → HasPoint n rows
+    → before ≡ (eliminate_last a (keep + 1) (n - (keep + 1)) rows).value → (pair_at a keep 0 before).value ≡ None → IsChosen a keep before chosen → IsPruning a n keep rows chosen
+chosen-pruning a n keep rows before chosen laws h w p e alone f =
+    let keeps = is_wanted a f.choice.wanted in
+    let by = wanted-by_direction a f.choice.wanted in
     let count = n - (keep + 1) in
     let m : n - keep ≡ suc count = omega (arith, h) in
     let first : n ≡ keep + 1 + count = omega (arith, h) in
     let all : n ≡ keep + suc count = omega (arith, h) in
-    let wb : AllWide (keep + 1) before = subst (AllWide (keep + 1)) (sym e) (eliminate_last-wide a (keep + 1) count n rows laws first w) in
+    let wb : AllWide (keep + 1) before = before-wide a n keep rows before laws h w e in
     let pb : HasPoint (keep + 1) before = subst (HasPoint (keep + 1)) (sym e) (point_left a (keep + 1) count n rows laws first w p) in
     let made = (without a keep before None).value in
     let is : (eliminate_last a keep (suc count) rows).value ≡ (trim a made).value =
-    last_first a keep count rows ∙ ap (λ rs. (eliminate a keep rs).value) (sym e) ∙ elimination a keep laws before firm wb pb alone keeps by told in
+    last_first a keep count rows ∙ ap (λ rs. (eliminate a keep rs).value) (sym e) ∙ elimination a keep laws before wb pb alone keeps by in
     let pl : HasPoint keep (trim a made).value = subst (HasPoint keep) is (point_left a keep (suc count) n rows laws all w p) in
     let left : (eliminate_last a keep (n - keep) rows).value ≡ (trim a made).value = ap (λ c. (eliminate_last a keep c rows).value) m ∙ is in
+    let fewer : chosen ≡ filter keeps (trim a made).value = f.choice.is ∙ trim-filter a keeps by laws made pl.point (formed_there a keep laws before wb pb alone keeps by pl) in
     record {
       some = p;
       keeps = keeps;
       by = by;
-      is = trim-filter a keeps by laws made pl.point (formed_there a keep laws before firm wb pb alone keeps by told pl) ∙ ap (filter keeps) (sym left);
-      told = subst (λ rs. AllOf (IsKeptOrLoose keep rs keeps) rs) (sym left) (all_told a keep laws before firm wb pb alone keeps by told pl (subst (λ rs. AllOf (IsKeptOrLoose keep rs keeps) (without a keep firm None).value) left kept));
+      is = fewer ∙ ap (filter keeps) (sym left);
+      enough = subst (λ rs. AreEnough keep rs keeps) (sym left) (enough a keep laws before wb pb alone keeps by pl chosen fewer f.points f.choice.seated);
     }
 
 -- the piece of what is left is that of its pruning
@@ -212,4 +236,4 @@ pruning-piece a n keep rows kept laws h s p =
     let left = (eliminate_last a keep (n - keep) rows).value in
     let sl : IsSystem a keep left = eliminate_last-system a keep (n - keep) n rows laws all s in
     let pl : HasPoint keep left = point_left a keep (n - keep) n rows laws all s.wide p.some in
-    thin_piece a keep laws left p.keeps p.by sl pl p.told
+    thin_piece a keep laws left p.keeps p.by sl pl p.enough

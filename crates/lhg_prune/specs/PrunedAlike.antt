@@ -1,14 +1,11 @@
 -- Does the pruning of whole rows make the piece that another number type makes?
-use Rattle.std.specs.Prelude.{◌≡◌, ℕ, ◌+◌, ◌-◌, ◌≤◌, Bool, true, false, ◌&&◌, List, [], ◌∷◌, filter}
+use Rattle.std.specs.Prelude.{◌≡◌, ◌⊎◌, ℕ, ◌+◌, ◌-◌, ◌≤◌, Bool, true, false, ◌&&◌, List, [], ◌∷◌, filter}
 use Rattle.std.proofs.Common.{refl, sym, ap, ◌∙◌, arith, subst, inl, inr}
-use Rattle.lhg_math.specs.Number.{Number, add, mul, neg, lt, nought, quot}
-use Rattle.lhg_math.specs.NumberRing.{mul-nought}
-use Rattle.lhg_math.specs.NumberOrder.{lt-mul}
-use Rattle.lhg_math.specs.Quotients.{mul-quot, abs_pos_of_lt}
+use Rattle.lhg_math.specs.Number.{Number, mul, lt, nought}
 use Rattle.lhg_math.specs.Signs.{same_number}
 use Rattle.lhg_math.specs.Tests.{AllOf, by_bool}
 use Rattle.lhg_num.specs.Arithmetic.{Arithmetic, IsLawful}
-use Rattle.lhg_row.specs.Row.{PlainRow, PlainPoint, Holds, holds_at, row_with}
+use Rattle.lhg_row.specs.Row.{PlainRow, PlainPoint, Holds, holds_at, relaxed}
 use Rattle.lhg_row.specs.Piece.{PlainPiece, InPiece, in_piece}
 use Rattle.lhg_row.specs.PieceLemmas.{in_piece_is}
 use Rattle.lhg_row.specs.ValueLaws.{scaled_row, holds-scaled}
@@ -25,11 +22,10 @@ use Rattle.lhg_elim.specs.AlikeEliminate.{eliminate_last-alike}
 use Rattle.lhg_elim.specs.SystemLaws.{eliminate_last-system}
 use Rattle.lhg_elim.specs.Turned.{AllTurned}
 use Rattle.lhg_elim.specs.TurnedLaws.{turned-back}
-use Rattle.lhg_prune.specs.Loose.{lowered, IsLoose}
-use Rattle.lhg_prune.specs.FilterLaws.{IsKeptOrLoose}
+use Rattle.lhg_prune.specs.Touch.{strictly, IsTouchedBy, IsTouched, AreEnough}
 use Rattle.lhg_prune.specs.Directions.{IsByDirection}
 use Rattle.lhg_prune.specs.Pruning.{IsPruning}
-use Rattle.lhg_prune.specs.Pruned.{lowered_multiple, point_left, filter-trimmed, pruning-piece}
+use Rattle.lhg_prune.specs.Pruned.{point_left, filter-trimmed, pruning-piece}
 
 -- ---- directions
 -- whether products agree does not hang on the type
@@ -69,33 +65,38 @@ module _ (a : Arithmetic) (n : ℕ) where
     same_test : (r s : PlainRow) → IsAlike a r s → keeps s ≡ keeps r
     same_test r s h = ap keeps h.is ∙ multiple h.factor r h.positive
 
-    -- a row is loose where one alike it is
-    alike-loose : (r s : PlainRow) → IsAlike a r s → IsLoose n others s → IsLoose n rows r
-    alike-loose r s h f =
+    -- what touches a row touches one alike it
+    alike-touched_by : (c : PlainPoint) (r s : PlainRow) → IsAlike a r s → IsTouchedBy keeps c s → IsTouchedBy keeps c r
+    alike-touched_by c r s h t =
         let k = h.factor in
-        let d = quot f.by k in
-        let e : mul k d ≡ f.by = mul-quot f.by k (abs_pos_of_lt k h.positive) in
-        let up : lt nought d ≡ true = sym (lt-mul k nought d h.positive) ∙ ap (λ z. lt z (mul k d)) (mul-nought k) ∙ ap (lt nought) e ∙ f.positive in
         record {
-          by = d;
-          positive = up;
-          holds = λ x l i.
-              let at : Holds (lowered f.by s) x = f.holds x l (alike-inside rows others alike x i) in
-              let there : Holds (lowered f.by (scaled_row k r)) x = subst (λ (q : PlainRow). Holds (lowered f.by q) x) h.is at in
-              sym (holds-scaled k (lowered d r) x h.positive)
-              ∙ ap (λ b. holds_at (row_with (scaled_row k r).coefs false b) x) (sym (lowered_multiple k r.bound d) ∙ ap (λ z. add (mul k r.bound) (neg z)) e)
-              ∙ there;
+          weak = sym (holds-scaled k (relaxed r) c h.positive) ∙ subst (λ (q : PlainRow). Holds (relaxed q) c) h.is t.weak;
+          room = on t.room;
         }
-
-    alike-told : (rs ss : PlainPiece) → AllAlike a rs ss → AllOf (IsKeptOrLoose n others keeps) ss → AllOf (IsKeptOrLoose n rows keeps) rs
-    alike-told [] [] h t = tt
-    alike-told [] (s ∷ ss) h t = absurd h
-    alike-told (r ∷ rs) [] h t = absurd h
-    alike-told (r ∷ rs) (s ∷ ss) h t = (on t.0, alike-told rs ss h.1 t.1)
       where
-        on : IsKeptOrLoose n others keeps s → IsKeptOrLoose n rows keeps r
-        on (inl k) = inl (sym (same_test r s h.0) ∙ k)
-        on (inr k) = inr (alike-loose r s h.0 k)
+        on : (keeps s ≡ true) ⊎ Holds (strictly s) c → (keeps r ≡ true) ⊎ Holds (strictly r) c
+        on (inl e) = inl (sym (same_test r s h) ∙ e)
+        on (inr e) = inr (sym (holds-scaled h.factor (strictly r) c h.positive) ∙ subst (λ (q : PlainRow). Holds (strictly q) c) h.is e)
+
+    all-touched_by : (c : PlainPoint) (rs ss : PlainPiece) → AllAlike a rs ss → AllOf (IsTouchedBy keeps c) ss → AllOf (IsTouchedBy keeps c) rs
+    all-touched_by c [] [] h t = tt
+    all-touched_by c [] (s ∷ ss) h t = absurd h
+    all-touched_by c (r ∷ rs) [] h t = absurd h
+    all-touched_by c (r ∷ rs) (s ∷ ss) h t = (alike-touched_by c r s h.0 t.0, all-touched_by c rs ss h.1 t.1)
+
+    alike-touched : (r s : PlainRow) → IsAlike a r s → IsTouched n others keeps s → IsTouched n rows keeps r
+    alike-touched r s h t = record {
+      point = t.point;
+      wide = t.wide;
+      touches = all-touched_by t.point rows others alike t.touches;
+      tight = sym (holds-scaled h.factor (strictly r) t.point h.positive) ∙ subst (λ (q : PlainRow). holds_at (strictly q) t.point ≡ false) h.is t.tight;
+    }
+
+    all-touched : (rs ss : PlainPiece) → AllAlike a rs ss → AllOf (λ s. keeps s ≡ true → IsTouched n others keeps s) ss → AllOf (λ r. keeps r ≡ true → IsTouched n rows keeps r) rs
+    all-touched [] [] h t = tt
+    all-touched [] (s ∷ ss) h t = absurd h
+    all-touched (r ∷ rs) [] h t = absurd h
+    all-touched (r ∷ rs) (s ∷ ss) h t = ((λ e. alike-touched r s h.0 (t.0 (same_test r s h.0 ∙ e))), all-touched rs ss h.1 t.1)
 
     -- the rows that are kept are alike
     alike-filter : (rs ss : PlainPiece) → AllAlike a rs ss → AllAlike a (filter keeps rs) (filter keeps ss)
@@ -107,6 +108,13 @@ module _ (a : Arithmetic) (n : ℕ) where
         by_bool (keeps r)
         (λ f. let g : keeps s ≡ true = e ∙ f in rw (f, g) (h.0, alike-filter rs ss h.1))
         (λ f. let g : keeps s ≡ false = e ∙ f in rw (f, g) (alike-filter rs ss h.1))
+
+    -- rows alike those that are enough are enough
+    alike-enough : AreEnough n others keeps → AreEnough n rows keeps
+    alike-enough e = record {
+      points = λ x l i. sym (alike-holds rows others alike x) ∙ e.points x l (alike-holds (filter keeps rows) (filter keeps others) (alike-filter rows others alike) x ∙ i);
+      touched = all-touched rows others alike e.touched;
+    }
 
 -- ---- the piece
 -- the pruning of alike rows, turned back, is over the first variables, and makes the piece that the rows project to
@@ -128,7 +136,7 @@ pruned_alike a w n keep rows others kept back laws wlaws h s alike p turned =
       keeps = p.keeps;
       by = by;
       is = refl;
-      told = alike-told a keep left (eliminate_last w keep count others).value la p.keeps by.multiple left (eliminate_last w keep count others).value la p.told;
+      enough = alike-enough a keep left (eliminate_last w keep count others).value la p.keeps by.multiple p.enough;
     } in
     let fa : AllAlike a fewer kept = subst (AllAlike a fewer) (sym p.is) (alike-filter a keep left (eliminate_last w keep count others).value la p.keeps by.multiple left (eliminate_last w keep count others).value la) in
     let back_is : back ≡ fewer = turned-back a laws fewer kept back (trimmed-settled a fewer laws t) fa turned in

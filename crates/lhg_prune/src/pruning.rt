@@ -1,27 +1,36 @@
-// The last elimination, with the rows alone that the piece of what is left can need.
-ghost use Rattle.std.specs.Prelude.{◌≡◌, ◌<◌, ◌+◌, IfOk};
+// The last elimination, with the rows alone that the piece of what is left needs.
+ghost use Rattle.std.specs.Prelude.{◌≡◌, ◌<◌, ◌+◌, true, false, length, map, take, IfOk};
+ghost use Rattle.lhg_math.specs.Tests.{AllOf};
+ghost use Rattle.lhg_row.specs.Members.{SomeOf};
+ghost use Rattle.lhg_row.specs.Piece.{in_piece};
+ghost use Rattle.lhg_row.specs.Row.{PlainPoint, holds_at};
 ghost use Rattle.lhg_row.specs.Width.{AllWide};
-ghost use Rattle.lhg_prune.specs.Chosen.{IsChosen};
+ghost use Rattle.lhg_prune.specs.Chosen.{IsSeatedChoice, IsChosen};
 ghost use Rattle.lhg_prune.specs.Pruning.{IsPruning};
+ghost use Rattle.lhg_prune.specs.Touch.{strictly};
 
-use crate::directions::directions;
-use crate::firmness::firm_rows;
+use crate::directions::push_unwanted;
 use crate::forming::{formed, wanted_rows};
 use crate::fractions::fractions;
+use crate::kinds::{strict_rows, weak_rows};
+use crate::seats::{are_seats, fail_somewhere, firm_rows, firsts};
+use crate::touching::touch_points;
 use lhg_elim::{eliminate_later, pair};
 use lhg_num::{Frac, Halt, Scalar};
-use lhg_row::{Row, copy_rows, trim};
+use lhg_poly::{Poly, includes, make, project};
+use lhg_row::{Point, Row, copy_rows, is_lower, is_upper, trim};
 use lhg_simplex::decide;
 use std::alloc::Global;
 
-/// The list over the first `keep` variables without rows that are loose on it, for rows over `vars` variables that have a point.
-/// It halts where the rows are not found to have one, where an equation fixes the last variable to be eliminated, and where a list or a number is past a
-/// limit on this way.
+/// The list over the first `keep` variables without rows that its piece does not need, for rows over `vars` variables that have a point.
+/// It halts where the rows are not found to have one, where an equation fixes the last variable to be eliminated, where its elimination has at most `few` combinations, where the
+/// rows that are needed are not found, and where a list or a number is past a limit on this way.
 pub(crate) fn pruned_rows<N: Scalar>(
     alloc: Global,
     vars: usize,
     rows: &[Row<N>],
     keep: usize,
+    few: usize,
 ) -> Result<Vec<Row<N>>, Halt>
     requires keep { keep < vars }
     requires wide { AllWide vars rows.now }
@@ -41,26 +50,166 @@ pub(crate) fn pruned_rows<N: Scalar>(
     if mates.is_some() {
         return Err(Halt::Rows);
     }
-    chosen(alloc, vars, &base, keep, &before)
+    if has_few(&before, keep, few) {
+        return Err(Halt::Rows);
+    }
+    chosen(alloc, keep, keep + 1, &before)
 }
 
-// The trim of those rows of the last elimination that have the direction of one that is made of firm rows alone and is not found to be loose.
+// Whether the variable has at most so many combinations of an upper with a lower row.
+fn has_few<N: Scalar>(rows: &[Row<N>], k: usize, few: usize) -> bool
+    requires { AllWide (k + 1) rows.now }
+{
+    let mut uppers: usize = 0;
+    let mut lowers: usize = 0;
+    for row in rows {
+        if is_upper(row, k) {
+            uppers = uppers.saturating_add(1);
+        }
+        if is_lower(row, k) {
+            lowers = lowers.saturating_add(1);
+        }
+    }
+    uppers.saturating_mul(lowers) <= few
+}
+
+// The trim of those rows of the last elimination that have the direction of one that is tight where the piece touches its bounds.
 fn chosen<N: Scalar>(
     alloc: Global,
-    vars: usize,
-    base: &[Row<Frac>],
     keep: usize,
+    vars: usize,
     before: &[Row<N>],
 ) -> Result<Vec<Row<N>>, Halt>
-    requires keep { keep < vars }
-    requires base { AllWide vars base.now }
-    requires wide { AllWide (keep + 1) before.now }
-    ensures { IfOk result (λ v. IsChosen N.arithmetic vars keep base.now before.now v.items) }
+    requires vars { vars ≡ keep + 1 }
+    requires wide { AllWide vars before.now }
+    ensures { IfOk result (λ v. IsChosen N.arithmetic keep before.now v.items) }
 {
-    let firm = firm_rows(alloc, vars, base, keep + 1, before)?;
-    let made = formed(alloc, keep, &firm, keep)?;
-    let wanted = directions(alloc, vars, base, keep, made)?;
+    let Some(lines) = fractions(alloc, before)? else {
+        return Err(Halt::Wide);
+    };
+    let copies = copy_rows(alloc, &lines)?;
+    let Some(whole) = make(alloc, vars, copies)? else {
+        return Err(Halt::Rows);
+    };
+    let Some(left) = project(alloc, whole.system(), keep)? else {
+        return Err(Halt::Rows);
+    };
+    let points = touch_points(alloc, vars, whole.rows(), left.rows())?;
+    let rows = chosen_at(alloc, keep, before, &lines, &points)?;
+    let within = is_within(alloc, keep, &rows, &left)?;
+    if !within {
+        return Err(Halt::Rows);
+    }
+    Ok(rows)
+}
+
+// The trim of those rows of the last elimination that have the direction of one without room at one of the points, where each row of it is so.
+fn chosen_at<N: Scalar>(
+    alloc: Global,
+    keep: usize,
+    before: &[Row<N>],
+    lines: &[Row<Frac>],
+    points: &[Point<Frac>],
+) -> Result<Vec<Row<N>>, Halt>
+    requires wide { AllWide (keep + 1) before.now }
+    requires lines { lines.now ≡ before.now }
+    requires points { AllOf (λ z. length z ≡ keep + 1) points.now }
+    ensures choice { IfOk result (λ v. IsSeatedChoice N.arithmetic keep before.now v.items) }
+    ensures wide { IfOk result (λ v. AllWide keep v.items) }
+{
+    let weak = weak_rows(alloc, lines)?;
+    let strict = strict_rows(alloc, lines)?;
+    let wanted = wanted_directions(alloc, keep, before, &strict, points)?;
+    let seats = are_seats(alloc, keep, before, &weak, &strict, &wanted, points)?;
+    if !seats {
+        return Err(Halt::Rows);
+    }
     let left = wanted_rows(alloc, keep, before, keep, &wanted)?;
     let system = trim(alloc, keep, left)?;
-    Ok(system.into_rows())
+    let rows = system.into_rows();
+    let tight = are_tight(alloc, keep, &rows, points)?;
+    if !tight {
+        return Err(Halt::Rows);
+    }
+    Ok(rows)
+}
+
+// Directions of what is made of the rows without room at each of the points.
+fn wanted_directions<N: Scalar>(
+    alloc: Global,
+    keep: usize,
+    before: &[Row<N>],
+    strict: &[Row<Frac>],
+    points: &[Point<Frac>],
+) -> Result<Vec<Row<N>>, Halt>
+    requires wide { AllWide (keep + 1) before.now }
+    requires strict { strict.now ≡ map strictly before.now }
+    requires points { AllOf (λ z. length z ≡ keep + 1) points.now }
+    ensures { IfOk result (λ v. AllWide keep v.items) }
+{
+    let mut wanted = Vec::new(alloc);
+    for point in points {
+        push_directions(alloc, keep, before, strict, point, &mut wanted)?;
+    }
+    Ok(wanted)
+}
+
+// Puts those of one point at the end.
+fn push_directions<N: Scalar>(
+    alloc: Global,
+    keep: usize,
+    before: &[Row<N>],
+    strict: &[Row<Frac>],
+    point: &Point<Frac>,
+    wanted: &mut Vec<Row<N>>,
+) -> Result<(), Halt>
+    requires wide { AllWide (keep + 1) before.now }
+    requires strict { strict.now ≡ map strictly before.now }
+    requires point { length point.now ≡ keep + 1 }
+    requires wanted { AllWide keep wanted.old.items }
+    ensures { IfOk result (λ _. AllWide keep wanted.new.items) }
+{
+    let firm = firm_rows(alloc, before, strict, point)?;
+    let made = formed(alloc, keep, &firm, keep)?;
+    push_unwanted(wanted, keep, made)
+}
+
+// Whether each of the rows, which are over `keep` variables, has no room at the first coordinates of some of the points.
+fn are_tight<N: Scalar>(
+    alloc: Global,
+    keep: usize,
+    rows: &[Row<N>],
+    points: &[Point<Frac>],
+) -> Result<bool, Halt>
+    requires rows { AllWide keep rows.now }
+    requires points { AllOf (λ z. length z ≡ keep + 1) points.now }
+    ensures { IfOk result (λ b. b ≡ true → AllOf (λ r. SomeOf (λ z. holds_at (strictly r) (take keep z) ≡ false) points.now) rows.now) }
+{
+    let Some(lines) = fractions(alloc, rows)? else {
+        return Ok(false);
+    };
+    let strict = strict_rows(alloc, &lines)?;
+    let firsts = firsts(alloc, keep, points)?;
+    let tight = fail_somewhere(&strict, &firsts)?;
+    Ok(tight)
+}
+
+// Whether all points of the rows, which are over `keep` variables, are points of the piece.
+fn is_within<N: Scalar>(
+    alloc: Global,
+    keep: usize,
+    rows: &[Row<N>],
+    piece: &Poly<Frac>,
+) -> Result<bool, Halt>
+    requires rows { AllWide keep rows.now }
+    requires piece { piece.now.width ≡ keep }
+    ensures { IfOk result (λ b. b ≡ true → (x : PlainPoint) → length x ≡ keep → in_piece rows.now x ≡ true → in_piece piece.now.lines x ≡ true) }
+{
+    let Some(lines) = fractions(alloc, rows)? else {
+        return Ok(false);
+    };
+    match make(alloc, keep, lines)? {
+        Some(chosen) => includes(alloc, piece, &chosen),
+        None => Ok(false),
+    }
 }

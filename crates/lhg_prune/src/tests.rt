@@ -14,7 +14,7 @@ use std::test::Fail;
 // The coefficients of x, y and z, the kind, and the bound.
 type Line = (i64, i64, i64, Kind, i64);
 
-// A box without a corner, below a slope of z, and rows that are loose on it.
+// A box without a corner, below a slope of z, and rows that have room everywhere on it.
 const CORNER: [Line; 11] = [
     (-1, 0, 0, Kind::Weak, 0),
     (1, 0, 0, Kind::Strict, 5),
@@ -70,12 +70,12 @@ fn are(piece: &Poly<Frac>, other: &Poly<Frac>) -> bool {
 fn prunes_to_the_same_piece(rt: HostRuntime) -> Result<(), Fail> {
     let system = system(rt.alloc(), &CORNER)?;
     let plain = project(rt.alloc(), &system, 2)?.ok_or("none")?;
-    let short = pruned(rt.alloc(), &system, 2)?.ok_or("none")?;
+    let short = pruned(rt.alloc(), &system, 2, 0)?.ok_or("none")?;
     assert!(rt; are(&short, &plain));
     let further = project_further(rt.alloc(), &system, 2)?.ok_or("none")?;
     assert!(rt; are(&further, &plain));
     let line = project(rt.alloc(), &system, 1)?.ok_or("none")?;
-    let short = pruned(rt.alloc(), &system, 1)?.ok_or("none")?;
+    let short = pruned(rt.alloc(), &system, 1, 0)?.ok_or("none")?;
     assert!(rt; are(&short, &line));
     Ok(())
 }

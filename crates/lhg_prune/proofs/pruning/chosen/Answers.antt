@@ -1,39 +1,41 @@
-use Rattle.std.proofs.Common.{◌≡◌, true, None, sym, ap, ◌∙◌, subst, arith}
-use Rattle.std.specs.Prelude.{filter, ◌⊎◌}
-use Rattle.lhg_math.specs.Tests.{AllOf}
-use Rattle.lhg_row.specs.Piece.{PlainPiece}
+use Rattle.std.proofs.Common.{◌≡◌, ◌+◌, ◌-◌, ◌++◌, Some, length, sym, ap, ◌∙◌, subst, rules, arith}
+use Rattle.std.specs.Prelude.{IfSome, option_map}
+use Rattle.std.proofs.lemmas.List.{length-append}
+use Rattle.lhg_num.specs.FracArithmetic.{frac_arithmetic}
+use Rattle.lhg_row.specs.Piece.{PlainPiece, InPiece, in_piece}
+use Rattle.lhg_row.specs.PieceFacts.{IsMade, IsProjection}
+use Rattle.lhg_row.specs.PieceLemmas.{in_piece_is}
+use Rattle.lhg_row.specs.System.{PlainSystem}
 use Rattle.lhg_row.specs.Width.{AllWide}
-use Rattle.lhg_row.specs.WithoutLaws.{filter-wide}
-use Rattle.lhg_row.specs.Trim.{trim}
-use Rattle.lhg_row.specs.Eliminate.{without}
-use Rattle.lhg_prune.specs.Directions.{is_wanted}
-use Rattle.lhg_prune.specs.LooseOver.{IsLooseOver}
-use Rattle.lhg_prune.proofs.ListSteps.{without_none-wide}
+use Rattle.lhg_prune.proofs.ListSteps.{last-value}
 use Rattle.lhg_prune.proofs.pruning.chosen.Goals as goal
 
-pub trim-requires : goal.trim-requires
-trim-requires g c =
-    let a = g.N.Scalar.arithmetic in
-    let k = c.args.keep in
-    let wanted = c.in_ok-wanted.wanted.items in
-    let all = (without a k c.args.before.now None).value in
-    let is : c.in_ok-left.left.items ≡ filter (is_wanted a wanted) all = c.in_ok-left.ensures ∙ ap (λ (ws : PlainPiece). filter (is_wanted a ws) all) c.deref-2.ensures.value in
-    subst (AllWide k) (sym is) (filter-wide k (is_wanted a wanted) all (without_none-wide a k k c.args.before.now (omega arith) c.requires.wide))
+pub is_within-requires-clause-rows : goal.is_within-requires-clause-rows
+is_within-requires-clause-rows g c = subst (AllWide c.args.keep) (sym c.deref-4.ensures.value) c.in_ok-rows.ensures.wide
 
 pub returns : goal.returns
 returns g c =
-    let a = g.N.Scalar.arithmetic in
     let k = c.args.keep in
-    let firm = c.in_ok-firm.firm.items in
-    let wanted = c.in_ok-wanted.wanted.items in
-    let all = (without a k c.args.before.now None).value in
-    let is : c.in_ok-left.left.items ≡ filter (is_wanted a wanted) all = c.in_ok-left.ensures ∙ ap (λ (ws : PlainPiece). filter (is_wanted a ws) all) c.deref-2.ensures.value in
-    let made : c.in_ok-made.made.items ≡ (without a k firm None).value = c.in_ok-made.ensures.list ∙ ap (λ (rs : PlainPiece). (without a k rs None).value) c.deref.ensures.value in
+    let before = c.args.before.now in
+    let whole = c.in-Some-2.whole in
+    let left = c.in-Some-3.left in
+    let rows = c.in_ok-rows.rows.items in
+    let same : c.in-Some.lines.items ≡ before = search rules in
+    let copied : c.in_ok-copies.copies.items ≡ before = c.in_ok-copies.ensures ∙ c.deref.ensures.value ∙ same in
+    let made : IsMade frac_arithmetic c.args.vars c.in_ok-copies.copies.items (option_map (λ (p : PlainSystem). p.lines) (Some whole)) =
+    subst (λ o. IsMade frac_arithmetic c.args.vars c.in_ok-copies.copies.items (option_map (λ (p : PlainSystem). p.lines) o)) c.in-Some-2.is c.in_ok-whole.ensures.points in
+    let width : whole.width ≡ c.args.vars = subst (λ o. IfSome o (λ (p : PlainSystem). p.width ≡ c.args.vars)) c.in-Some-2.is c.in_ok-whole.ensures.vars in
+    let shadow : IsProjection frac_arithmetic k (whole.width - k) whole.lines (option_map (λ (p : PlainSystem). p.lines) (Some left)) =
+    subst (λ (s : PlainSystem). IsProjection frac_arithmetic k (s.width - k) s.lines (option_map (λ (p : PlainSystem). p.lines) (Some left))) c.system.ensures.system
+    (subst (λ o. IsProjection frac_arithmetic k (c.system.result.now.width - k) c.system.result.now.lines (option_map (λ (p : PlainSystem). p.lines) o)) c.in-Some-3.is c.in_ok-left.ensures.points) in
+    let one : whole.width - k ≡ 1 = let v = c.requires.vars in omega (arith, width, v) in
     record {
-      firm = firm;
-      wanted = wanted;
-      told = c.in_ok-firm.ensures.told;
-      wide = subst (AllWide k) made c.in_ok-made.ensures.wide;
-      made = subst (AllOf (λ r. (is_wanted a wanted r ≡ true) ⊎ IsLooseOver c.args.vars k c.args.base.now r)) made c.in_ok-wanted.ensures.told;
-      is = c.into_rows.ensures.rows ∙ c.in_ok-system.ensures.list ∙ ap (λ (rs : PlainPiece). (trim a rs).value) is;
+      choice = c.in_ok-rows.ensures.choice;
+      points = λ x l i.
+          let there = c.in_ok-within.ensures c.if-not-within.false x l (ap (λ (rs : PlainPiece). in_piece rs x) c.deref-4.ensures.value ∙ i) in
+          let f = (shadow.points x l).0 ((in_piece_is left.lines x).1 there) in
+          let wide : length (x ++ f.later) ≡ c.args.vars = let m = f.many in let v = c.requires.vars in length-append x f.later ∙ omega (arith, l, m, one, v) in
+          let inside : InPiece before (x ++ f.later) =
+          (in_piece_is before (x ++ f.later)).1 (sym (ap (λ (rs : PlainPiece). in_piece rs (x ++ f.later)) copied) ∙ sym (made.points (x ++ f.later) wide) ∙ (in_piece_is whole.lines (x ++ f.later)).0 f.inside) in
+          last-value k before x l (record { later = f.later; many = f.many ∙ one; inside = inside });
     }
