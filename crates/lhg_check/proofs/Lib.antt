@@ -9,7 +9,6 @@ pub mod FirstSteps
 pub mod GuardSteps
 pub mod InsideSteps
 pub mod Marks
-pub mod NearSteps
 pub mod PastSplit
 pub mod SafetySteps
 pub mod VerdictSteps

@@ -16,10 +16,9 @@ ghost use Rattle.lhg_check.specs.CheckFacts.{IsReachedFrom, IsReachedPast, HasRe
 ghost use Rattle.lhg_check.specs.Views.{plain_piece, plain_first, IsFirstAmong, IsChecked};
 
 use crate::firsts::First;
-use crate::near::near_at;
 use lhg_cross::Tally;
 use lhg_ctl::Controller;
-use lhg_jump::Outs;
+use lhg_jump::{Outs, near_at};
 use lhg_num::{Frac, Halt};
 use lhg_plant::{Location, Plant};
 use lhg_poly::Poly;
@@ -94,7 +93,7 @@ fn found_from(
     ensures vars { IfOk result (λ o. IfSome o (λ p. p.width ≡ length plant.now.vars.items)) }
     ensures reached { OnOk result (IsReachedFrom (plain_plant plant.now) (plain_controller controller.now) (lines_of bad.now) l (plain_location location.now)) }
 {
-    let near = near_at(alloc, plant, controller, l)?;
+    let near = near_at(alloc, plant, &controller.region, &controller.guards, l)?;
     let mut tally = Tally::new();
     let reached = reach(alloc, bad, &near, &location.flow, &mut tally)?;
     Ok(first_found(reached.found))

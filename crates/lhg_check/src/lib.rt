@@ -6,7 +6,6 @@ mod escaping;
 mod firsts;
 mod guarding;
 pub mod laws;
-mod near;
 mod safety;
 #[cfg(test)]
 mod tests;

@@ -1,6 +1,6 @@
 -- After a flow from a piece are exactly the points to which a legal flow leads from it.
 use Rattle.std.proofs.Common.{◌≡◌, ◌↔◌, ℕ, List, [], ◌∷◌, map, length, slice_get, IsSomeAnd, Option, Some, None, refl, sym, ap, ◌∙◌, subst}
-use Rattle.lhg_math.specs.Places.{inner_place}
+use Rattle.lhg_math.specs.PlacesLaws.{inner_place}
 use Rattle.lhg_math.specs.Tests.{AllOf}
 use Rattle.lhg_num.specs.FracArithmetic.{frac_arithmetic, frac_is_lawful}
 use Rattle.lhg_row.specs.Row.{PlainPoint}

@@ -1,7 +1,6 @@
 pub mod Built
 pub mod CarriedSteps
 pub mod Halting
-pub mod NearSteps
 pub mod PassSteps
 pub mod PlaceSteps
 pub mod RecordSteps

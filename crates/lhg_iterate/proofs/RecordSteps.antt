@@ -1,7 +1,7 @@
 -- Steps of the lists of records.
 use Rattle.std.proofs.Common.{◌≡◌, ◌+◌, ◌<◌, ℕ, List, [], ◌∷◌, length, drop, get_or, suc, refl, ap, ◌∙◌, arith}
 use Rattle.lhg_motion.specs.Found.{PlainFound}
-use Rattle.lhg_row.proofs.Steps.{drop_cons}
+use Rattle.lhg_math.specs.ListFacts.{drop_cons}
 use Rattle.lhg_plant.specs.Loss.{PlainCause}
 use Rattle.lhg_plant.specs.OutCalculus.{PlainHit}
 use Rattle.lhg_jump.specs.declared.hits.Hit.{Hit}

@@ -4,7 +4,7 @@ use Rattle.lhg_num.specs.Marked.{Marked, valued}
 use Rattle.lhg_num.specs.MarkedLaws.{IsPart}
 use Rattle.lhg_row.specs.Row.{PlainPoint}
 use Rattle.lhg_row.specs.Sample.{sample}
-use Rattle.lhg_row.proofs.Steps.{drop_cons}
+use Rattle.lhg_math.specs.ListFacts.{drop_cons}
 use Rattle.lhg_union.proofs.ListFacts.{all_at}
 use Rattle.lhg_union.specs.Regions.{plain_region}
 use Rattle.lhg_plant.specs.declared.plants.Plant.{Plant}
@@ -36,6 +36,8 @@ within_more a b budget region g rounds losses h s = record {
   region_is = s.region_is;
   exact = s.exact;
   solution = s.solution;
+  guards = s.guards;
+  picked = s.picked;
   within = let w = s.within in omega arith;
   counted = s.counted;
   sound = s.sound;

@@ -6,7 +6,6 @@ mod causes;
 mod computing;
 pub mod laws;
 mod limits;
-mod near;
 mod passing;
 mod places;
 mod records;

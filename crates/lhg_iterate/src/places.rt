@@ -19,11 +19,10 @@ ghost use Rattle.lhg_loss.specs.RoundFacts.{AreReached, IsReachedAt};
 ghost use Rattle.lhg_loss.specs.Views.{plain_losses, AllHaveVars};
 ghost use Rattle.lhg_iterate.specs.RoundViews.{plain_round, IsOverPlant, AreRoundLists};
 
-use crate::near::near_at;
 use crate::records::{Site, records};
 use crate::rounds::Round;
 use lhg_cross::Tally;
-use lhg_jump::{Hit, Outs};
+use lhg_jump::{Hit, Outs, near_at};
 use lhg_loss::Loss;
 use lhg_num::{Frac, Halt};
 use lhg_plant::Plant;

@@ -1,7 +1,9 @@
 pub mod Answering
 pub mod AwayCode
 pub mod CallCode
+pub mod EachSteps
 pub mod HitCode
+pub mod NearSteps
 pub mod PreSteps
 pub mod RangeSteps
 pub mod RegionSteps

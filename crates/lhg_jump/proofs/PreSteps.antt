@@ -1,18 +1,15 @@
 -- Steps of the loops that gather the states from which a switch leads into pieces.
-use Rattle.std.proofs.Common.{Option, Some, slice_get, ◌≡◌, ℕ, ◌+◌, ◌<◌, ◌≤◌, List, [], ◌∷◌, ◌++◌, length, drop, get_or, refl, sym, ap, ◌∙◌, subst, append-nil}
-use Rattle.std.proofs.lemmas.List.{drop_all}
+use Rattle.std.proofs.Common.{Option, Some, slice_get, ◌≡◌, ℕ, ◌+◌, ◌<◌, ◌≤◌, List, [], ◌++◌, length, drop, get_or, refl, sym, subst}
 use Rattle.lhg_num.specs.FracArithmetic.{frac_arithmetic}
 use Rattle.lhg_num.specs.Marked.{Marked, and_then, valued, IsRest}
-use Rattle.lhg_num.specs.MarkedLaws.{IsPart, IsBuilt, and_then-part, and_then-rest}
+use Rattle.lhg_num.specs.MarkedLaws.{IsPart, and_then-part, and_then-rest}
 use Rattle.lhg_row.specs.Piece.{PlainPiece}
 use Rattle.lhg_row.specs.System.{PlainSystem}
-use Rattle.lhg_row.specs.Eliminate.{each_joined}
 use Rattle.lhg_row.specs.Lists.{listed, counted_pieces}
 use Rattle.lhg_row.specs.Members.{all-append}
-use Rattle.lhg_row.proofs.Steps.{drop_cons}
 use Rattle.lhg_union.specs.PolyLists.{lines_of, AllVars}
-use Rattle.lhg_union.proofs.ListFacts.{lines_of-append, listed-append}
-use Rattle.lhg_union.proofs.GatherSteps.{more-part, more-step, counted-part, joined-part}
+use Rattle.lhg_jump.proofs.EachSteps.{IsGiven, given-end, piece-part, piece-step, IsJoined}
+use Rattle.lhg_jump.proofs.EachSteps as joined
 use Rattle.lhg_row.specs.Trim.{trim}
 use Rattle.lhg_row.specs.Pieces.{project}
 use Rattle.lhg_plant.specs.Plant.{PlainLocation, PlainSwitch, PlainPlant}
@@ -20,76 +17,54 @@ use Rattle.lhg_plant.specs.Invariants.{invariant_list, invariant_of}
 use Rattle.lhg_plant.specs.Pre.{pre_rows, pre_piece, pre_each, pre_list, pre_of, pre}
 
 -- ---- one piece of the target
+-- the states that lead into a piece from the states of one invariant, and from those of each of a list
+abbrev pub leading : ℕ → PlainPiece → PlainPiece → PlainSystem → Marked (Option PlainPiece)
+leading n jump q inv = pre_piece n jump q inv.lines
+
+abbrev pub all_leading : ℕ → PlainPiece → PlainPiece → List PlainSystem → Marked (List PlainPiece)
+all_leading n jump q invs = pre_each n jump q (lines_of invs)
+
 -- the pieces so far
 abbrev pub IsEach : ℕ → PlainPiece → PlainPiece → List PlainSystem → List PlainSystem → ℕ → Type 0
-IsEach n jump q invs out i = IsBuilt (pre_each n jump q (lines_of invs)) (lines_of out) (pre_each n jump q (lines_of (drop i invs)))
+IsEach n jump q invs out i = IsGiven (all_leading n jump q) invs out i
 
 module _ (n : ℕ) (jump q : PlainPiece) (invs out : List PlainSystem) (i : ℕ) (inv : PlainSystem) (is : inv ≡ get_or invs i inv) (there : i < length invs) (h : IsEach n jump q invs out i) where
-  abbrev whole : Marked (List PlainPiece)
-  whole = pre_each n jump q (lines_of invs)
-
-  abbrev behind : Marked (List PlainPiece)
-  behind = pre_each n jump q (lines_of (drop (i + 1) invs))
-
-  here : IsBuilt whole (lines_of out) (and_then (pre_piece n jump q inv.lines) (λ o. valued (λ ps. listed o [] ++ ps) behind))
-  here =
-      let f : IsBuilt whole (lines_of out) (and_then (pre_piece n jump q inv.lines) (λ o. valued (listed o) behind)) =
-      subst (λ rs. IsBuilt whole (lines_of out) (pre_each n jump q (lines_of rs))) (drop_cons invs i inv is there) h in
-      record { same = ap (λ ps. lines_of out ++ ps) (sym (listed-append (pre_piece n jump q inv.lines).value behind.value)) ∙ f.same; part = record { wide = f.part.wide; rows = f.part.rows; pieces = f.part.pieces } }
-
   -- the marks of the next piece
-  pub each-part : IsPart whole (valued (λ o. lines_of out ++ listed o []) (pre_piece n jump q inv.lines))
-  each-part = let p = more-part whole (lines_of out) (pre_piece n jump q inv.lines) (λ o. listed o []) behind here in record { wide = p.wide; rows = p.rows; pieces = p.pieces }
+  pub each-part : IsPart (pre_each n jump q (lines_of invs)) (valued (λ o. lines_of out ++ listed o []) (pre_piece n jump q inv.lines))
+  each-part = piece-part (leading n jump q) (all_leading n jump q) (λ r rs. refl) invs out i inv is there h (λ o. lines_of out ++ listed o [])
 
   -- the next piece
   pub each-step : (more : List PlainSystem) → lines_of more ≡ lines_of out ++ listed (pre_piece n jump q inv.lines).value [] → IsEach n jump q invs more (i + 1)
-  each-step more e = subst (λ ps. IsBuilt whole ps behind) (sym e) (more-step whole (lines_of out) (pre_piece n jump q inv.lines) (λ o. listed o []) behind here (pre_piece n jump q inv.lines).value refl)
+  each-step = piece-step (leading n jump q) (all_leading n jump q) (λ r rs. refl) invs out i inv is there h
 
 -- at the end these are all
 pub each-end : (n : ℕ) (jump q : PlainPiece) (invs out : List PlainSystem) (i : ℕ) → length invs ≤ i → IsEach n jump q invs out i → lines_of out ≡ (pre_each n jump q (lines_of invs)).value
-each-end n jump q invs out i h w = sym (append-nil (lines_of out)) ∙ sym (ap (λ rs. lines_of out ++ (pre_each n jump q (lines_of rs)).value) (drop_all i invs h)) ∙ w.same
+each-end n jump q invs out i = given-end (all_leading n jump q) invs out i refl
 
 -- ---- all pieces of the target
 -- the pieces so far
 abbrev pub IsListed : ℕ → List PlainPiece → PlainPiece → List PlainSystem → List PlainSystem → ℕ → Type 0
-IsListed n invs jump target out i = IsBuilt (each_joined (λ q. pre_each n jump q invs) (lines_of target)) (lines_of out) (each_joined (λ q. pre_each n jump q invs) (lines_of (drop i target)))
+IsListed n invs jump target out i = IsJoined (λ q. pre_each n jump q invs) target out i
 
 module _ (n : ℕ) (invs : List PlainPiece) (jump : PlainPiece) (target out : List PlainSystem) (i : ℕ) (q : PlainSystem) (is : q ≡ get_or target i q) (there : i < length target) (h : IsListed n invs jump target out i) where
-  abbrev f : PlainPiece → Marked (List PlainPiece)
-  f r = pre_each n jump r invs
-
-  abbrev all : Marked (List PlainPiece)
-  all = each_joined f (lines_of target)
-
-  abbrev later : Marked (List PlainPiece)
-  later = each_joined f (lines_of (drop (i + 1) target))
-
-  list-here : IsBuilt all (lines_of out) (each_joined f (q.lines ∷ lines_of (drop (i + 1) target)))
-  list-here = subst (λ rs. IsBuilt all (lines_of out) (each_joined f (lines_of rs))) (drop_cons target i q is there) h
-
   -- the marks of the next pieces
-  pub list-part : IsPart (pre_list n invs jump (lines_of target)) (f q.lines)
+  pub list-part : IsPart (pre_list n invs jump (lines_of target)) (pre_each n jump q.lines invs)
   unfolding pre_list
-  list-part = joined-part all (f q.lines) (more-part all (lines_of out) (f q.lines) (λ ys. ys) later list-here)
-
-  list-built : (found : List PlainPiece) → found ≡ (f q.lines).value → IsBuilt all (lines_of out ++ found) later
-  list-built found e = more-step all (lines_of out) (f q.lines) (λ ys. ys) later list-here found e
+  list-part = joined.list-part (λ r. pre_each n jump r invs) target out i q is there h
 
   -- a list that is past its limits is so in the end
-  pub limit-part : (found : List PlainSystem) → lines_of found ≡ (f q.lines).value → IsPart (pre_list n invs jump (lines_of target)) (counted_pieces (lines_of (out ++ found)))
+  pub limit-part : (found : List PlainSystem) → lines_of found ≡ (pre_each n jump q.lines invs).value → IsPart (pre_list n invs jump (lines_of target)) (counted_pieces (lines_of (out ++ found)))
   unfolding pre_list
-  limit-part found e =
-      subst (λ ps. IsPart (and_then all counted_pieces) (counted_pieces ps)) (sym (lines_of-append out found)) (counted-part all (lines_of out ++ lines_of found) later (list-built (lines_of found) e))
+  limit-part = joined.limit-part (λ r. pre_each n jump r invs) target out i q is there h
 
   -- the next pieces
-  pub list-step : (found more : List PlainSystem) → lines_of found ≡ (f q.lines).value → more ≡ out ++ found → IsListed n invs jump target more (i + 1)
-  list-step found more e g = subst (λ ps. IsBuilt all ps later) (sym (ap lines_of g ∙ lines_of-append out found)) (list-built (lines_of found) e)
+  pub list-step : (found more : List PlainSystem) → lines_of found ≡ (pre_each n jump q.lines invs).value → more ≡ out ++ found → IsListed n invs jump target more (i + 1)
+  list-step = joined.list-step (λ r. pre_each n jump r invs) target out i q is there h
 
 -- at the end these are all
 pub list-end : (n : ℕ) (invs : List PlainPiece) (jump : PlainPiece) (target out : List PlainSystem) (i : ℕ) → length target ≤ i → IsListed n invs jump target out i → lines_of out ≡ (pre_list n invs jump (lines_of target)).value
 unfolding pre_list
-list-end n invs jump target out i h w =
-    sym (append-nil (lines_of out)) ∙ sym (ap (λ rs. lines_of out ++ (each_joined (λ q. pre_each n jump q invs) (lines_of rs)).value) (drop_all i target h)) ∙ w.same
+list-end n invs jump target out i = joined.joined-end (λ q. pre_each n jump q invs) target out i
 
 -- more pieces over the same variables
 pub vars-append : (n : ℕ) (ps qs more : List PlainSystem) → AllVars n ps → AllVars n qs → more ≡ ps ++ qs → AllVars n more

@@ -3,7 +3,7 @@ use Rattle.std.proofs.Common.{◌≡◌, ℕ, suc, ◌+◌, ◌<◌, ◌≤◌, 
 use Rattle.std.proofs.lemmas.List.{drop_all}
 use Rattle.lhg_num.specs.Marked.{Marked, walk, IsRest}
 use Rattle.lhg_num.specs.MarkedLaws.{IsPart, walk-step, walk-part}
-use Rattle.lhg_row.proofs.Steps.{drop_cons}
+use Rattle.lhg_math.specs.ListFacts.{drop_cons}
 use Rattle.lhg_plant.specs.OutCalculus.{numbered}
 
 module _ {S A X : Type 0} (f : S → X → Marked S) (view : A → X) (xs : List A) (whole : Marked S) (s : S) (i : ℕ) where

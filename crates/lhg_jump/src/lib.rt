@@ -5,6 +5,7 @@
 mod backs;
 mod hits;
 mod invariant_lists;
+mod near;
 mod outs;
 mod predecessors;
 mod safe;
@@ -14,6 +15,7 @@ mod tests;
 pub use backs::{back, back_by, guards, guards_with};
 pub use hits::{Hit, hits_at};
 pub use invariant_lists::{invariant_list, invariants};
+pub use near::near_at;
 pub use outs::{Outs, away_of, out, out_with};
 pub use predecessors::pre;
 pub use safe::{safe_pieces, safe_region};

@@ -3,7 +3,8 @@ use Rattle.std.proofs.Common.{◌≡◌, true, inl, List, [], refl, sym, ap, ◌
 use Rattle.lhg_math.specs.Number.{Number, mul, lt, nought, unit, mid, half}
 use Rattle.lhg_math.specs.NumberOrder.{nought_unit, lt_trans}
 use Rattle.lhg_math.specs.Interpolate.{interpolate}
-use Rattle.lhg_math.specs.Places.{IsPlace, inner_place, start_place, half_inner}
+use Rattle.lhg_math.specs.Places.{IsPlace}
+use Rattle.lhg_math.specs.PlacesLaws.{inner_place, start_place, half_inner}
 use Rattle.lhg_row.specs.Row.{PlainPoint, PlainRow}
 use Rattle.lhg_row.specs.Piece.{PlainPiece, InPiece, InSome}
 use Rattle.lhg_row.specs.Members.{SomeOf}

@@ -23,8 +23,11 @@ use Rattle.lhg_iterate.proofs.Halting.{ok_then}
 use Rattle.lhg_iterate.proofs.PlaceSteps.{losses-near, losses-rest, reached-at}
 use Rattle.lhg_iterate.proofs.places.losses_at.Goals as goal
 
-pub near_at-requires-clause-there : goal.near_at-requires-clause-there
-near_at-requires-clause-there c = let m = c.requires.lists.region_many in let t = c.requires.there in omega arith
+pub near_at-requires-clause-region : goal.near_at-requires-clause-region
+near_at-requires-clause-region c = record { many = c.requires.lists.region_many; vars = c.requires.lists.region_vars }
+
+pub near_at-requires-clause-lists : goal.near_at-requires-clause-lists
+near_at-requires-clause-lists c = record { many = c.requires.lists.backs_many; vars = c.requires.lists.backs_vars }
 
 pub returns-in_err-near-clause-losses : goal.returns-in_err-near-clause-losses
 returns-in_err-near-clause-losses c = λ place there.

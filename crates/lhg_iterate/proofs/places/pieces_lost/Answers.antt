@@ -2,7 +2,7 @@ use Rattle.std.proofs.Common.{◌≡◌, ◌+◌, ◌∷◌, ◌++◌, [], drop,
 use Rattle.std.proofs.lemmas.List.{drop_all}
 use Rattle.lhg_row.specs.Members.{all-append}
 use Rattle.lhg_row.specs.System.{PlainSystem}
-use Rattle.lhg_row.proofs.Steps.{drop_cons}
+use Rattle.lhg_math.specs.ListFacts.{drop_cons}
 use Rattle.lhg_union.specs.PolyLists.{lines_of, AllVars}
 use Rattle.lhg_union.proofs.ListFacts.{all_at}
 use Rattle.lhg_loss.specs.Records.{pieces_lost}

@@ -1,4 +1,4 @@
--- Steps of the loop that takes the guards of a location away, one after the other.
+-- Steps of the loop that takes the lists of the switches of a location away, one after the other.
 use Rattle.std.proofs.Common.{◌≡◌, ◌+◌, ◌<◌, ◌≤◌, ℕ, List, [], ◌∷◌, ◌++◌, cond, nat_eq, length, drop, get_or, map, refl, sym, ap, ◌∙◌, inl, inr, subst}
 use Rattle.std.specs.Global.{Vec}
 use Rattle.std.proofs.lemmas.Bool.{or_left, or_right, or_cases}
@@ -10,7 +10,7 @@ use Rattle.lhg_num.specs.MarkedLaws.{IsPart, rest_self, rest_rest, rest_part, an
 use Rattle.lhg_row.specs.Piece.{PlainPiece}
 use Rattle.lhg_row.specs.Lists.{minus_one, minus}
 use Rattle.lhg_row.specs.System.{PlainSystem}
-use Rattle.lhg_row.proofs.Steps.{drop_cons}
+use Rattle.lhg_math.specs.ListFacts.{drop_cons}
 use Rattle.lhg_union.specs.PolyLists.{lines_of}
 use Rattle.lhg_union.specs.Regions.{plain_region}
 use Rattle.lhg_plant.specs.declared.plants.Switch.{Switch}
@@ -71,26 +71,26 @@ module _ (n l : ℕ) (here : List PlainPiece) (ws : List Switch) (kss : List (Ve
         minus-none n near ∙ ap (λ (vs : List Switch). (minus frac_arithmetic n near (joined_at l (map plain_switch vs) (plain_region (drop e kss)))).value) (sym (drop_all e ws past)) ∙ h.same
 
     module _ (w : Switch) (ks : Vec PlainSystem) (w_is : w ≡ get_or ws e w) (w_there : e < length ws) (ks_is : ks ≡ get_or kss e ks) (ks_there : e < length kss) where
-      abbrev guard : List PlainPiece
-      guard = cond (nat_eq w.from l) (lines_of ks.items) []
+      abbrev list : List PlainPiece
+      list = cond (nat_eq w.from l) (lines_of ks.items) []
 
-      joined-cons : joined e ≡ guard ++ joined (e + 1)
+      joined-cons : joined e ≡ list ++ joined (e + 1)
       joined-cons =
           ap (λ (vs : List Switch). joined_at l (map plain_switch vs) (plain_region (drop e kss))) (drop_cons ws e w w_is w_there)
           ∙ ap (λ (vs : List (Vec PlainSystem)). joined_at l (map plain_switch (w ∷ drop (e + 1) ws)) (plain_region vs)) (drop_cons kss e ks ks_is ks_there)
 
-      from-here : IsRest whole (minus frac_arithmetic n near (guard ++ joined (e + 1)))
+      from-here : IsRest whole (minus frac_arithmetic n near (list ++ joined (e + 1)))
       from-here = subst (λ (ps : List PlainPiece). IsRest whole (minus frac_arithmetic n near ps)) joined-cons h
 
-      -- the marks of the next guard are marks of all
-      pub near-part : IsPart whole (minus frac_arithmetic n near guard)
-      near-part = rest_part whole (minus frac_arithmetic n near (guard ++ joined (e + 1))) (minus frac_arithmetic n near guard) from-here (minus-part n near guard (joined (e + 1)))
+      -- the marks of the next list are marks of all
+      pub near-part : IsPart whole (minus frac_arithmetic n near list)
+      near-part = rest_part whole (minus frac_arithmetic n near (list ++ joined (e + 1))) (minus frac_arithmetic n near list) from-here (minus-part n near list (joined (e + 1)))
 
-      -- one guard less is left
-      pub near-step : (more : List PlainPiece) → more ≡ (minus frac_arithmetic n near guard).value → IsNearBefore (e + 1) more
+      -- one list less is left
+      pub near-step : (more : List PlainPiece) → more ≡ (minus frac_arithmetic n near list).value → IsNearBefore (e + 1) more
       near-step more same =
           subst (λ (ps : List PlainPiece). IsRest whole (minus frac_arithmetic n ps (joined (e + 1)))) (sym same)
-          (rest_rest whole (minus frac_arithmetic n near (guard ++ joined (e + 1))) (minus frac_arithmetic n (minus frac_arithmetic n near guard).value (joined (e + 1))) from-here (minus-rest n near guard (joined (e + 1))))
+          (rest_rest whole (minus frac_arithmetic n near (list ++ joined (e + 1))) (minus frac_arithmetic n (minus frac_arithmetic n near list).value (joined (e + 1))) from-here (minus-rest n near list (joined (e + 1))))
 
 -- ---- near
 -- what is left of the region without the joined lists
