@@ -6,7 +6,8 @@ use Rattle.lhg_math.specs.Gcd.{gcd}
 use Rattle.lhg_math.specs.Number.{Number, add, mul, neg, sub, lt, nought, unit, half, whole, ratio, ratio_suc}
 use Rattle.lhg_math.specs.NumberRing.{sub_is, nought-add, neg-mul, mul-unit, add_comm}
 use Rattle.lhg_math.specs.NumberOrder.{lt-neg, lt_irrefl, lt_asym, lt_trans, le_trans, le-lt_trans, lt-le_trans, lt-difference, mul_positive}
-use Rattle.lhg_math.specs.Interpolate.{interpolate, interpolate-lt, interpolate_start, interpolate_end, unit-mul}
+use Rattle.lhg_math.specs.Interpolate.{interpolate}
+use Rattle.lhg_math.specs.InterpolateLaws.{interpolate-lt, interpolate_start, interpolate_end, unit-mul}
 use Rattle.lhg_math.specs.Places.{IsPlace}
 use Rattle.lhg_math.specs.Tests.{by_bool, false_true}
 use Rattle.lhg_row.specs.Row.{PlainPoint, Holds}

@@ -4,6 +4,7 @@ use Rattle.lhg_lex.specs.Lines.{lines_of}
 use Rattle.lhg_math.specs.Tests.{false_true}
 use Rattle.lhg_plant.specs.Controller.{PlainController, IsValid}
 use Rattle.lhg_plant.specs.Inside.{IsRegionInside}
+use Rattle.lhg_plant.specs.Pick.{picks}
 use Rattle.lhg_plant.specs.Plant.{PlainPlant}
 use Rattle.lhg_plant.proofs.LogDecided.{legal_or_illegal}
 use Rattle.lhg_ctl.specs.Conditions.{IsInsideController}
@@ -50,7 +51,7 @@ module _ (input : (PlainPlant × PlainDraft) × PlainLog) (t : IsWithinRun input
 
   by_run : (s : Status) (text : List ℕ) → IsRunOutcome input.0.0 (controller_in input.0) input.1.start input.1.entries s text → IsSureRun input s
   by_run status.Done text h = inl (refl, h.is_trace.legal)
-  by_run status.No text h = inr (refl, λ legal. legal_or_illegal input.0.0 (controller_in input.0) input.1.start input.1.entries h.number legal h.illegal)
+  by_run status.No text h = inr (refl, λ legal. legal_or_illegal (picks input.0.0 (controller_in input.0).region) input.0.0 (controller_in input.0) input.1.start input.1.entries h.number legal h.illegal)
   by_run status.Words text h = absurd h
   by_run status.Text text h = absurd h
   by_run status.Wide text h = absurd (t.numbers h.number h.stop)

@@ -11,9 +11,11 @@ use Rattle.lhg_plant.specs.Inside.{IsRegionInside}
 use Rattle.lhg_plant.specs.Legal.{LegalFlow}
 use Rattle.lhg_plant.specs.Plant.{PlainPlant}
 use Rattle.lhg_plant.specs.Proper.{IsProper}
-use Rattle.lhg_plant.specs.Run.{PlainEntry, flow_entry, env_entry, land_entry, PlainStep, flowed, switched, landed, RunPlace, result_at, run_rows, state_along, run_flow, PassesFlow, StopsFlow, PicksFlow, IsLegalEntry, DoesEntry, RunsFrom, IsRun, resting}
+use Rattle.lhg_plant.specs.Pick.{picks}
+use Rattle.lhg_plant.specs.Run.{PlainEntry, flow_entry, env_entry, land_entry, PlainStep, flowed, switched, landed, RunPlace, run_rows, state_along, run_flow, PassesFlow, StopsFlow, PicksFlow, IsLegalEntry, DoesEntry, RunsFrom, IsRun, resting}
+use Rattle.lhg_plant.specs.Choice.{result_at}
 use Rattle.lhg_plant.specs.State.{PlainState, IsState}
-use Rattle.lhg_plant.proofs.Picks.{picked_right}
+use Rattle.lhg_plant.proofs.Picks.{picks_legal}
 use Rattle.lhg_plant.proofs.RunInside.{flow_length, along_state}
 use Rattle.lhg_run.specs.Answers.{IsTraceBefore}
 use Rattle.lhg_text.specs.TraceText.{IsPlacedStep}
@@ -36,15 +38,15 @@ module _ (a : PlainPlant) (proper : IsProper a) (c : PlainController) (inside : 
         (all-append (IsPlacedStep a) (run_flow s t y h.place) (switched h.switch ∷ []) (part s t y h.place (lt nought h.place) state.fits)
         (there _ a.switches h.switch (slice_get a.switches h.switch) refl h.side, tt))
 
-    picked : PicksFlow a c s t y steps next → AllOf (IsPlacedStep a) steps
+    picked : PicksFlow (picks a c.region) a c s t y steps next → AllOf (IsPlacedStep a) steps
     picked h =
         let state = along_state a s t y h.place legal (check_is_place (run_rows a c s.loc) s.at y h.place h.stops.check) in
-        let right = picked_right a c.region proper inside h.switch (state_along s y h.place) h.result state h.stops.guard.holds.leaves h.picks in
+        let right = (picks_legal a c.region proper inside).legal h.switch (state_along s y h.place) h.result state h.stops.guard.holds.leaves h.picks in
         subst (λ (ss : List PlainStep). AllOf (IsPlacedStep a) ss) (sym h.does)
         (all-append (IsPlacedStep a) (run_flow s t y h.place) (switched h.switch ∷ landed (result_at a h.switch h.result) ∷ []) (part s t y h.place (lt nought h.place) state.fits)
         (there _ a.switches h.switch (slice_get a.switches h.switch) refl h.side, (placed_state a (result_at a h.switch h.result) right.0.result, tt)))
 
-  step_placed : (r : RunPlace) (entry : PlainEntry) (steps : List PlainStep) (next : RunPlace) → IsLegalEntry a r entry → DoesEntry a c r entry steps next → AllOf (IsPlacedStep a) steps
+  step_placed : (r : RunPlace) (entry : PlainEntry) (steps : List PlainStep) (next : RunPlace) → IsLegalEntry a r entry → DoesEntry (picks a c.region) a c r entry steps next → AllOf (IsPlacedStep a) steps
   step_placed r (flow_entry t y) steps next legal (inl h) = passed r.state t y legal.1 steps next h
   step_placed r (flow_entry t y) steps next legal (inr (inl h)) = stopped r.state t y legal.1 steps next h
   step_placed r (flow_entry t y) steps next legal (inr (inr h)) = picked r.state t y legal.1 steps next h
@@ -57,13 +59,13 @@ module _ (a : PlainPlant) (proper : IsProper a) (c : PlainController) (inside : 
       subst (λ (ss : List PlainStep). AllOf (IsPlacedStep a) ss) (sym h.2)
       (placed_state a (result_at a h.0 y) (subst (λ (e : ℕ). IsState a (result_at a e y)) same legal.2.result), tt)
 
-  runs_placed : (r : RunPlace) (entries : List PlainEntry) (trace : List PlainStep) (last : RunPlace) → RunsFrom a c r entries trace last → AllOf (IsPlacedStep a) trace
+  runs_placed : (r : RunPlace) (entries : List PlainEntry) (trace : List PlainStep) (last : RunPlace) → RunsFrom (picks a c.region) a c r entries trace last → AllOf (IsPlacedStep a) trace
   runs_placed r [] trace last h = subst (λ (ss : List PlainStep). AllOf (IsPlacedStep a) ss) (sym h.0) tt
   runs_placed r (entry ∷ rest) trace last h =
       subst (λ (ss : List PlainStep). AllOf (IsPlacedStep a) ss) (sym h.6)
       (all-append (IsPlacedStep a) h.0 h.2 (step_placed r entry h.0 h.1 h.3 h.4) (runs_placed h.1 rest h.2 last h.5))
 
-  pub run_placed : (start : PlainState) (entries : List PlainEntry) (trace : List PlainStep) (last : RunPlace) → IsRun a c start entries trace last → AllOf (IsPlacedStep a) trace
+  pub run_placed : (start : PlainState) (entries : List PlainEntry) (trace : List PlainStep) (last : RunPlace) → IsRun (picks a c.region) a c start entries trace last → AllOf (IsPlacedStep a) trace
   run_placed start entries trace last h =
       subst (λ (ss : List PlainStep). AllOf (IsPlacedStep a) ss) (sym h.whole) (placed_state a start h.starts.state, runs_placed (resting start) entries h.steps last h.runs)
 

@@ -3,6 +3,7 @@ use Rattle.std.specs.Prelude.{◌≡◌, ◌⊎◌, ℕ, List, ◌++◌, codes, 
 use Rattle.lhg_plant.specs.Controller.{PlainController, IsValid}
 use Rattle.lhg_plant.specs.Log.{IsLegalLog, IsFirstIllegal}
 use Rattle.lhg_plant.specs.Plant.{PlainPlant}
+use Rattle.lhg_plant.specs.Pick.{picks}
 use Rattle.lhg_plant.specs.Run.{PlainEntry, PlainStep}
 use Rattle.lhg_plant.specs.State.{PlainState}
 use Rattle.lhg_row_text.specs.PrintedLine.{line}
@@ -27,7 +28,7 @@ pub record IsRunText (a : PlainPlant) (c : PlainController) (start : PlainState)
 -- the trace of the entries before the first illegal one, whose number the answer names
 pub record IsIllegalText (a : PlainPlant) (c : PlainController) (start : PlainState) (entries : List PlainEntry) (text : List ℕ) : Type 0 where
   pub number : ℕ
-  pub illegal : IsFirstIllegal a c start entries number
+  pub illegal : IsFirstIllegal (picks a c.region) a c start entries number
   pub trace : List PlainStep
   pub before : IsTraceBefore a c start entries number trace
   pub printed : text ≡ trace_text a trace (Some number)
@@ -97,5 +98,5 @@ pub record IsUnrunnable (bytes : List ℕ) : Type 0 where
 -- yes where the log is legal, and else no
 abbrev pub IsSureRun : (PlainPlant × PlainDraft) × PlainLog → Status → Type 0
 IsSureRun input s =
-    ((s ≡ status.Done) × IsLegalLog input.0.0 (controller_in input.0) input.1.start input.1.entries)
-    ⊎ ((s ≡ status.No) × ¬ IsLegalLog input.0.0 (controller_in input.0) input.1.start input.1.entries)
+    ((s ≡ status.Done) × IsLegalLog (picks input.0.0 (controller_in input.0).region) input.0.0 (controller_in input.0) input.1.start input.1.entries)
+    ⊎ ((s ≡ status.No) × ¬ IsLegalLog (picks input.0.0 (controller_in input.0).region) input.0.0 (controller_in input.0) input.1.start input.1.entries)

@@ -7,7 +7,7 @@ use Rattle.std.proofs.lemmas.Grind.{flat_map-append}
 use Rattle.lhg_math.specs.Tests.{AllOf}
 use Rattle.lhg_row.specs.Piece.{PlainPiece}
 use Rattle.lhg_row.specs.Row.{PlainRow}
-use Rattle.lhg_row.proofs.Steps.{drop_cons}
+use Rattle.lhg_math.specs.ListFacts.{drop_cons}
 use Rattle.lhg_plant.specs.declared.plants.Location.{Location}
 use Rattle.lhg_plant.specs.declared.plants.Switch.{Switch}
 use Rattle.lhg_plant.specs.Parts.{plain_location, plain_switch}

@@ -10,6 +10,7 @@ use Rattle.lhg_row.specs.MakeLaws.{make-exact}
 use Rattle.lhg_row.specs.Members.{SomeOf}
 use Rattle.lhg_row.specs.MinusLaws.{in_some-append, in_option, in_option-made}
 use Rattle.lhg_row.specs.Piece.{PlainPiece, InPiece, in_piece, InSome, in_some}
+use Rattle.lhg_row.specs.PieceFacts.{IsMade}
 use Rattle.lhg_row.specs.PieceLemmas.{in_piece_is, in_some_is}
 use Rattle.lhg_row.specs.Pieces.{make}
 use Rattle.lhg_row.specs.Row.{PlainPoint}
@@ -20,7 +21,7 @@ use Rattle.lhg_plant.specs.Plant.{PlainLocation, PlainSwitch, PlainPlant}
 use Rattle.lhg_plant.specs.Proper.{IsLocation, IsProper}
 use Rattle.lhg_read.proofs.Collecting.{same_eq}
 use Rattle.lhg_ctl.specs.DraftStates.{HoldsAt, IsPlaced}
-use Rattle.lhg_ctl.specs.Making.{put, inv_in, inv_at, source_in, line_made, all_made}
+use Rattle.lhg_ctl.specs.Making.{made_within, made_in, put, inv_in, inv_at, source_in, line_made, all_made}
 
 -- ---- one line
 
@@ -56,6 +57,14 @@ pub put-length : (lists : List (List PlainPiece)) (k : ℕ) (o : Option PlainPie
 put-length lists k None = refl
 put-length lists k (Some p) = length-set lists k (get_or lists k [] ++ p ∷ [])
 
+-- what is made has the points of the invariant's rows and of the line's rows
+pub made_in-exact : (n : ℕ) (inv rows : PlainPiece) → AllWide n inv → AllWide n rows → IsMade frac_arithmetic n (inv ++ rows) (made_in n inv rows).value
+made_in-exact n inv rows v w = by_inv (make frac_arithmetic n inv).value (make-exact frac_arithmetic n inv frac_is_lawful v)
+  where
+    by_inv : (o : Option PlainPiece) → IsMade frac_arithmetic n inv o → IsMade frac_arithmetic n (inv ++ rows) (made_within n inv rows o).value
+    by_inv None h = λ x fits k. h x fits ((in_piece_is inv x).1 (and_parts (in_piece inv x) (in_piece rows x) (sym (in_piece-append inv rows x) ∙ (in_piece_is (inv ++ rows) x).0 k)).0)
+    by_inv (Some piece) h = make-exact frac_arithmetic n (inv ++ rows) frac_is_lawful (append-wide n inv rows v w)
+
 -- ---- all lines
 
 pub inv_wide : (n : ℕ) (locs : List PlainLocation) (l : ℕ) → AllOf (IsLocation n) locs → AllWide n (inv_in (slice_get locs l))
@@ -72,13 +81,13 @@ module _ (a : PlainPlant) (proper : IsProper a) (loc : ℕ → ℕ) (j : ℕ) (x
   line-in lists p h =
       let n = length a.vars in
       let rows = inv_at a (loc p.0) ++ p.1 in
-      let o = (make frac_arithmetic n rows).value in
+      let o = (made_in n (inv_at a (loc p.0)) p.1).value in
       put-in lists p.0 j o x h.place
       ∙ ap (λ b. in_some (get_or lists j []) x || ((p.0 == j) && b))
-      (in_option-made frac_arithmetic n rows o x fits (make-exact frac_arithmetic n rows frac_is_lawful (append-wide n (inv_at a (loc p.0)) p.1 (inv_wide n a.locs (loc p.0) proper.locs) h.wide)) ∙ in_piece-append (inv_at a (loc p.0)) p.1 x)
+      (in_option-made frac_arithmetic n rows o x fits (made_in-exact n (inv_at a (loc p.0)) p.1 (inv_wide n a.locs (loc p.0) proper.locs) h.wide) ∙ in_piece-append (inv_at a (loc p.0)) p.1 x)
 
   line-placed : (count : ℕ) (lists : List (List PlainPiece)) (p : ℕ × PlainPiece) → count ≡ length lists → count ≡ length (line_made a loc lists p).value
-  line-placed count lists p e = e ∙ sym (put-length lists p.0 (make frac_arithmetic (length a.vars) (inv_at a (loc p.0) ++ p.1)).value)
+  line-placed count lists p e = e ∙ sym (put-length lists p.0 (made_in (length a.vars) (inv_at a (loc p.0)) p.1).value)
 
   all-in : (count : ℕ) (lists : List (List PlainPiece)) (ps : List (ℕ × PlainPiece)) → count ≡ length lists → AllOf (IsPlaced (length a.vars) count) ps
       → in_some (get_or (walk (line_made a loc) lists ps).value j []) x ≡ (in_some (get_or lists j []) x || any_of (has_by a loc j x) ps)

@@ -4,17 +4,14 @@ use Rattle.std.specs.Prelude.{slice_get, IfSome, IsSomeAnd}
 use Rattle.std.proofs.lemmas.Bool.{and_parts}
 use Rattle.std.proofs.lemmas.List.{get_or-set_same, get_or-set_other}
 use Rattle.lhg_math.specs.Tests.{AllOf, by_bool, false_true}
-use Rattle.lhg_num.specs.FracArithmetic.{frac_arithmetic, frac_is_lawful}
+use Rattle.lhg_num.specs.FracArithmetic.{frac_arithmetic}
 use Rattle.lhg_num.specs.Marked.{walk}
 use Rattle.lhg_row.specs.EliminateLaws.{in_piece-append}
-use Rattle.lhg_row.specs.MakeLaws.{make-exact}
 use Rattle.lhg_row.specs.Members.{all-append}
 use Rattle.lhg_row.specs.Piece.{PlainPiece, InPiece, in_piece}
 use Rattle.lhg_row.specs.PieceFacts.{IsPoly, AllPolys, IsMade}
 use Rattle.lhg_row.specs.PieceLemmas.{in_piece_is}
-use Rattle.lhg_row.specs.Pieces.{make}
 use Rattle.lhg_row.specs.Row.{PlainPoint}
-use Rattle.lhg_row.specs.WidthLaws.{append-wide}
 use Rattle.lhg_plant.specs.declared.plants.Side.TheVariants.{Env}
 use Rattle.lhg_plant.specs.Inside.{AllInside}
 use Rattle.lhg_plant.specs.Plant.{PlainLocation, PlainSwitch, PlainPlant}
@@ -25,8 +22,8 @@ use Rattle.lhg_ctl.specs.Conditions.{IsInsideController}
 use Rattle.lhg_read.specs.SwitchName.{is_controllable, is_of}
 use Rattle.lhg_ctl.specs.Draft.{PlainDraft}
 use Rattle.lhg_ctl.specs.DraftStates.{IsPlaced, IsOfController, IsDraft}
-use Rattle.lhg_ctl.specs.Making.{put, inv_in, inv_at, source_in, source_at, line_made, all_made, controller_of}
-use Rattle.lhg_ctl.proofs.MakingExact.{put-length, inv_wide}
+use Rattle.lhg_ctl.specs.Making.{made_in, put, inv_in, inv_at, source_in, source_at, line_made, all_made, controller_of}
+use Rattle.lhg_ctl.proofs.MakingExact.{put-length, inv_wide, made_in-exact}
 
 -- ---- what holds of each piece that is put
 
@@ -42,12 +39,12 @@ put-all P lists k (Some p) lt g h j =
     subst (AllOf (P j)) (sym (get_or-set_other lists k j ps [] apart)) (h j))
 
 module _ (a : PlainPlant) (loc : ℕ → ℕ) (P : ℕ → PlainPiece → Type 0) (count : ℕ)
-    (good : (p : ℕ × PlainPiece) → IsPlaced (length a.vars) count p → IfSome (make frac_arithmetic (length a.vars) (inv_at a (loc p.0) ++ p.1)).value (P p.0)) where
+    (good : (p : ℕ × PlainPiece) → IsPlaced (length a.vars) count p → IfSome (made_in (length a.vars) (inv_at a (loc p.0)) p.1).value (P p.0)) where
   walk-all : (lists : List (List PlainPiece)) (ps : List (ℕ × PlainPiece)) → count ≡ length lists → AllOf (IsPlaced (length a.vars) count) ps → ((j : ℕ) → AllOf (P j) (get_or lists j []))
       → (j : ℕ) → AllOf (P j) (get_or (walk (line_made a loc) lists ps).value j [])
   walk-all lists [] e h all = all
   walk-all lists (p ∷ ps) e h all =
-      let o = (make frac_arithmetic (length a.vars) (inv_at a (loc p.0) ++ p.1)).value in
+      let o = (made_in (length a.vars) (inv_at a (loc p.0)) p.1).value in
       walk-all (line_made a loc lists p).value ps (e ∙ sym (put-length lists p.0 o)) h.1 (put-all P lists p.0 o (subst (λ (n : ℕ). p.0 < n) e h.0.place) (good p h.0) all)
 
   -- each piece that is made
@@ -70,7 +67,7 @@ module _ (a : PlainPlant) (loc : ℕ → ℕ) (P : ℕ → PlainPiece → Type 0
 
 walk-length : (a : PlainPlant) (loc : ℕ → ℕ) (lists : List (List PlainPiece)) (ps : List (ℕ × PlainPiece)) → length (walk (line_made a loc) lists ps).value ≡ length lists
 walk-length a loc lists [] = refl
-walk-length a loc lists (p ∷ ps) = walk-length a loc (line_made a loc lists p).value ps ∙ put-length lists p.0 (make frac_arithmetic (length a.vars) (inv_at a (loc p.0) ++ p.1)).value
+walk-length a loc lists (p ∷ ps) = walk-length a loc (line_made a loc lists p).value ps ∙ put-length lists p.0 (made_in (length a.vars) (inv_at a (loc p.0)) p.1).value
 
 made-length : (a : PlainPlant) (loc : ℕ → ℕ) (count : ℕ) (ps : List (ℕ × PlainPiece)) → length (all_made a loc count ps).value ≡ count
 made-length a loc count ps = walk-length a loc (replicate count []) ps ∙ size count
@@ -86,7 +83,7 @@ put-other lists k j (Some p) h = get_or-set_other lists k j (get_or lists k [] +
 walk-other : (a : PlainPlant) (loc : ℕ → ℕ) (j : ℕ) (lists : List (List PlainPiece)) (ps : List (ℕ × PlainPiece)) → AllOf (λ p. j ≢ p.0) ps → get_or (walk (line_made a loc) lists ps).value j [] ≡ get_or lists j []
 walk-other a loc j lists [] h = refl
 walk-other a loc j lists (p ∷ ps) h =
-    walk-other a loc j (line_made a loc lists p).value ps h.1 ∙ put-other lists p.0 j (make frac_arithmetic (length a.vars) (inv_at a (loc p.0) ++ p.1)).value h.0
+    walk-other a loc j (line_made a loc lists p).value ps h.1 ∙ put-other lists p.0 j (made_in (length a.vars) (inv_at a (loc p.0)) p.1).value h.0
 
 none-made : (a : PlainPlant) (loc : ℕ → ℕ) (count j : ℕ) (ps : List (ℕ × PlainPiece)) → AllOf (λ p. j ≢ p.0) ps → get_or (all_made a loc count ps).value j [] ≡ []
 none-made a loc count j ps h = walk-other a loc j (replicate count []) ps h ∙ empty count j
@@ -108,8 +105,8 @@ there [] l x h e = absurd (omega arith)
 there (y ∷ locs) zero x h e = (in_piece_is y.inv x).1 e
 there (y ∷ locs) (suc l) x h e = there locs l x (omega arith) e
 
-made-kept : (a : PlainPlant) → IsProper a → (l : ℕ) (rows : PlainPiece) → l < length a.locs → (wide : IsPlaced (length a.vars) (length a.locs) (l, rows)) → IfSome (make frac_arithmetic (length a.vars) (inv_at a l ++ rows)).value (IsKept a l)
-made-kept a proper l rows lt wide = by_piece (make frac_arithmetic n all).value (make-exact frac_arithmetic n all frac_is_lawful (append-wide n (inv_at a l) rows (inv_wide n a.locs l proper.locs) wide.wide))
+made-kept : (a : PlainPlant) → IsProper a → (l : ℕ) (rows : PlainPiece) → l < length a.locs → (wide : IsPlaced (length a.vars) (length a.locs) (l, rows)) → IfSome (made_in (length a.vars) (inv_at a l) rows).value (IsKept a l)
+made-kept a proper l rows lt wide = by_piece (made_in n (inv_at a l) rows).value (made_in-exact n (inv_at a l) rows (inv_wide n a.locs l proper.locs) wide.wide)
   where
     n : ℕ
     n = length a.vars

@@ -6,15 +6,13 @@ use Rattle.std.proofs.Math.ListN.{drop_of_length-le}
 use Rattle.std.proofs.lemmas.List.{length-map, length-set}
 use Rattle.lhg_num.specs.Halting.{IsHaltedBy, IsHaltedByPieces}
 use Rattle.lhg_num.specs.Marked.{Marked, walk, valued, IsRest}
-use Rattle.lhg_num.specs.FracArithmetic.{frac_arithmetic}
 use Rattle.lhg_num.specs.MarkedLaws.{IsPart, rest_self, rest_part, and_then-part, and_then-rest, walk-step, walk-part}
 use Rattle.lhg_num.specs.declared.refusals.Halt.{Halt}
 use Rattle.lhg_num.specs.declared.refusals.Halt.TheVariants.{Wide, Rows, Pieces, Memory}
 use Rattle.lhg_row.specs.Lists.{counted_pieces}
 use Rattle.lhg_row.specs.Piece.{PlainPiece}
 use Rattle.lhg_row.specs.Row.{PlainRow}
-use Rattle.lhg_row.proofs.Steps.{drop_cons}
-use Rattle.lhg_row.specs.Pieces.{make}
+use Rattle.lhg_math.specs.ListFacts.{drop_cons, all_map_at}
 use Rattle.lhg_row.specs.System.{PlainSystem}
 use Rattle.lhg_row.specs.Width.{AllWide}
 use Rattle.lhg_plant.specs.declared.plants.Location.{Location}
@@ -29,9 +27,8 @@ use Rattle.lhg_union.specs.PolyLists.{lines_of, AllVars}
 use Rattle.lhg_union.specs.Regions.{polys_of, polys_at, plain_region}
 use Rattle.lhg_union.proofs.ListFacts.{lines_of-append}
 use Rattle.lhg_row.specs.Members.{all-append}
-use Rattle.lhg_row_text.proofs.Members.{all_map_at}
 use Rattle.lhg_ctl.specs.AllOver.{AreAllOver}
-use Rattle.lhg_ctl.specs.Making.{put, inv_in, inv_at, source_in, source_at, line_at, line_made, all_made, controller_of}
+use Rattle.lhg_ctl.specs.Making.{made_in, put, inv_in, inv_at, source_in, source_at, line_at, line_made, all_made, controller_of}
 use Rattle.lhg_ctl.specs.Draft.{PlainDraft}
 use Rattle.lhg_ctl.specs.DraftStates.{IsPlaced}
 use Rattle.lhg_ctl.specs.Views.{plain_placed, plain_draft}
@@ -127,17 +124,17 @@ source_is [] i w h e = absurd (omega arith)
 source_is (x ∷ switches) zero w h e = ap (λ (y : Switch). y.from) (sym e)
 source_is (x ∷ switches) (suc i) w h e = source_is switches i w (omega arith) e
 
--- the marks of make are marks of a line
-pub made_part : (a : PlainPlant) (l : ℕ) (lists : List (List PlainPiece)) (k : ℕ) (inv rows : PlainPiece) → inv_at a l ≡ inv → IsPart (line_at a l lists (k, rows)) (make frac_arithmetic (length a.vars) (inv ++ rows))
+-- the marks of what is made are marks of a line
+pub made_part : (a : PlainPlant) (l : ℕ) (lists : List (List PlainPiece)) (k : ℕ) (inv rows : PlainPiece) → inv_at a l ≡ inv → IsPart (line_at a l lists (k, rows)) (made_in (length a.vars) inv rows)
 made_part a l lists k inv rows e =
-    subst (λ i. IsPart (line_at a l lists (k, rows)) (make frac_arithmetic (length a.vars) (i ++ rows))) e
-    (and_then-part (make frac_arithmetic (length a.vars) (inv_at a l ++ rows)) (λ o. put lists k o))
+    subst (λ i. IsPart (line_at a l lists (k, rows)) (made_in (length a.vars) i rows)) e
+    (and_then-part (made_in (length a.vars) (inv_at a l) rows) (λ o. put lists k o))
 
 -- what is put is the rest of a line
-pub put_rest : (a : PlainPlant) (l : ℕ) (lists : List (List PlainPiece)) (k : ℕ) (inv rows : PlainPiece) (o : Option PlainPiece) → inv_at a l ≡ inv → o ≡ (make frac_arithmetic (length a.vars) (inv ++ rows)).value → IsRest (line_at a l lists (k, rows)) (put lists k o)
+pub put_rest : (a : PlainPlant) (l : ℕ) (lists : List (List PlainPiece)) (k : ℕ) (inv rows : PlainPiece) (o : Option PlainPiece) → inv_at a l ≡ inv → o ≡ (made_in (length a.vars) inv rows).value → IsRest (line_at a l lists (k, rows)) (put lists k o)
 put_rest a l lists k inv rows o e h =
-    subst (λ x. IsRest (line_at a l lists (k, rows)) (put lists k x)) (ap (λ i. (make frac_arithmetic (length a.vars) (i ++ rows)).value) e ∙ sym h)
-    (and_then-rest (make frac_arithmetic (length a.vars) (inv_at a l ++ rows)) (λ x. put lists k x))
+    subst (λ x. IsRest (line_at a l lists (k, rows)) (put lists k x)) (ap (λ i. (made_in (length a.vars) i rows).value) e ∙ sym h)
+    (and_then-rest (made_in (length a.vars) (inv_at a l) rows) (λ x. put lists k x))
 
 -- ---- the lines one after another
 

@@ -17,7 +17,7 @@ use Rattle.lhg_row.specs.System.{PlainSystem}
 use Rattle.lhg_row.specs.Trim.{IsSettledOrNothing}
 use Rattle.lhg_row.specs.TrimmedLaws.{trimmed-settled}
 use Rattle.lhg_row.specs.Width.{AllWide}
-use Rattle.lhg_row.proofs.Steps.{drop_cons}
+use Rattle.lhg_math.specs.ListFacts.{drop_cons}
 use Rattle.lhg_plant.specs.declared.plants.Location.{Location}
 use Rattle.lhg_plant.specs.declared.plants.Switch.{Switch}
 use Rattle.lhg_plant.specs.Controller.{PlainController}

@@ -30,9 +30,18 @@ source_in (Some w) = w.from
 abbrev pub source_at : PlainPlant → ℕ → ℕ
 source_at a e = source_in (slice_get a.switches e)
 
--- a line of a location more: make of the location's invariant's rows followed by the line's rows, where there is a piece
+-- make of an invariant's rows followed by a line's rows; nothing is formed where the invariant has no piece
+abbrev pub made_within : ℕ → PlainPiece → PlainPiece → Option PlainPiece → Marked (Option PlainPiece)
+made_within n inv rows None = done None
+made_within n inv rows (Some piece) = make frac_arithmetic n (inv ++ rows)
+
+-- the same behind the piece of the invariant, which is made first
+abbrev pub made_in : ℕ → PlainPiece → PlainPiece → Marked (Option PlainPiece)
+made_in n inv rows = and_then (make frac_arithmetic n inv) (made_within n inv rows)
+
+-- a line of a location more, where there is a piece
 abbrev pub line_at : PlainPlant → ℕ → List (List PlainPiece) → ℕ × PlainPiece → Marked (List (List PlainPiece))
-line_at a l lists p = and_then (make frac_arithmetic (length a.vars) (inv_at a l ++ p.1)) (λ o. put lists p.0 o)
+line_at a l lists p = and_then (made_in (length a.vars) (inv_at a l) p.1) (λ o. put lists p.0 o)
 
 -- the same where the line's place says the location
 abbrev pub line_made : PlainPlant → (ℕ → ℕ) → List (List PlainPiece) → ℕ × PlainPiece → Marked (List (List PlainPiece))

@@ -1,9 +1,7 @@
 // Makes controllers of what is written.
 ghost use Rattle.std.specs.Prelude.{◌≡◌, ◌<◌, ◌↔◌, ◌++◌, [], ℕ, length, map, replicate, option_map, IfOk, IfSome, OnOk};
 ghost use Rattle.lhg_math.specs.Tests.{AllOf};
-ghost use Rattle.lhg_num.specs.FracArithmetic.{frac_arithmetic};
 ghost use Rattle.lhg_num.specs.Halting.{IsHaltedBy, IsHaltedByRows, IsHaltedByPieces};
-ghost use Rattle.lhg_row.specs.Pieces.{make};
 ghost use Rattle.lhg_row.specs.Width.{AllWide};
 ghost use Rattle.lhg_plant.specs.Region.{InRegion, InGuard};
 ghost use Rattle.lhg_plant.specs.State.{PlainState};
@@ -12,7 +10,7 @@ ghost use Rattle.lhg_union.specs.Regions.{plain_region};
 ghost use Rattle.lhg_ctl.specs.AllOver.{AreAllOver};
 ghost use Rattle.lhg_ctl.specs.Conditions.{IsControllerOf, IsInsideController};
 ghost use Rattle.lhg_ctl.specs.DraftStates.{IsPlaced, IsDraft, InDraft, InDraftGuard};
-ghost use Rattle.lhg_ctl.specs.Making.{put, source_at, line_at, all_made, controller_of};
+ghost use Rattle.lhg_ctl.specs.Making.{made_in, put, source_at, line_at, all_made, controller_of};
 ghost use Rattle.lhg_ctl.specs.Views.{plain_placed, plain_controller, plain_draft};
 
 use crate::controllers::{Controller, Draft};
@@ -34,7 +32,7 @@ fn empty_lists(alloc: Global, count: usize) -> Result<Region<Frac>, AllocError>
     Ok(Region { pieces })
 }
 
-// The piece of the rows of an invariant followed by those of a line.
+// The piece of the rows of an invariant followed by those of a line; the invariant's own piece is made first.
 fn made(
     alloc: Global,
     vars: usize,
@@ -43,9 +41,12 @@ fn made(
 ) -> Result<Option<Poly<Frac>>, Halt>
     requires inv { AllWide vars inv.now }
     requires rows { AllWide vars rows.now }
-    ensures calculus { IsHaltedByRows result (make frac_arithmetic vars (inv.now ++ rows.now)) (option_map (λ p. p.lines)) }
+    ensures calculus { IsHaltedByRows result (made_in vars inv.now rows.now) (option_map (λ p. p.lines)) }
     ensures vars { IfOk result (λ o. IfSome o (λ p. p.width ≡ vars)) }
 {
+    if make(alloc, vars, copy_rows(alloc, inv)?)?.is_none() {
+        return Ok(None);
+    }
     let mut all = copy_rows(alloc, inv)?;
     append_rows(alloc, &mut all, rows)?;
     make(alloc, vars, all)
@@ -135,7 +136,8 @@ fn made_guards(
 }
 
 /// The controller of what is written: for each piece and each guard the piece of its location's invariant followed by its
-/// rows, in order; those without a point are dropped.
+/// rows, in order; those without a point are dropped. The piece of the invariant is made first, and where it has none
+/// nothing more is formed.
 /// It halts for `Wide`, `Rows` and `Pieces` only where the calculus of this call does, and for `Memory`.
 pub fn controller_of(alloc: Global, plant: &Plant, draft: &Draft) -> Result<Controller, Halt>
     requires { IsDraft (plain_plant plant.now) (plain_draft draft.now) }

@@ -2,7 +2,7 @@ use Rattle.std.proofs.Common.{◌<◌, length, map, subst}
 use Rattle.std.proofs.lemmas.List.{length-map}
 use Rattle.lhg_plant.specs.Proper.{IsSwitch}
 use Rattle.lhg_plant.specs.Views.{plain_location, plain_switch}
-use Rattle.lhg_row_text.proofs.Members.{all_map_at}
+use Rattle.lhg_math.specs.ListFacts.{all_map_at}
 use Rattle.lhg_ctl.proofs.making.source.Goals as goal
 
 pub returns-clause-below : goal.returns-clause-below
