@@ -13,7 +13,7 @@ use Rattle.lhg_motion.specs.CrossCalculus.{cross_rows, cross}
 use Rattle.lhg_motion.specs.CrossFact.{IsCross}
 use Rattle.lhg_motion.specs.CrossSystem.{cross_rows-wide, middle_rows}
 use Rattle.lhg_motion.specs.CrossLaws.{to_middle, cross-exact}
-use Rattle.lhg_row.proofs.Steps.{rest_step, step_part}
+use Rattle.lhg_num.specs.PartLaws.{rest_step, step_part}
 
 module _ (a : Arithmetic) (n : ℕ) (start through into flow : PlainPiece) where
   abbrev formed : PlainPiece

@@ -8,7 +8,6 @@ use Rattle.lhg_num.specs.declared.refusals.Halt.{Halt}
 use Rattle.lhg_num.specs.declared.refusals.Halt.TheVariants.{Wide}
 use Rattle.lhg_num.specs.Halting.{of_all, of_rows, of_numbers, of_pieces, IsHaltedBy, IsHaltedByRows, IsHaltedByWide, IsHaltedByPieces}
 use Rattle.lhg_num.specs.AnswerLaws.{among_all, numbers_among_rows, halts_for_more, part_halts_for, more_halts_for, rest_halts_for, exact_for}
-pub use Rattle.lhg_num.specs.AnswerLaws.{part_halts_for}
 
 -- ---- from a word to a wider one
 -- from numbers to rows

@@ -26,7 +26,8 @@ use Rattle.lhg_motion.specs.AttemptLaws.{IsFound}
 use Rattle.lhg_motion.specs.LayerFound.{IsLayerFound, layer_found}
 use Rattle.lhg_motion.specs.Found.{PlainFound, pieces_of}
 use Rattle.lhg_motion.specs.ReachCalculus.{Placed, numbered, found_by, added_unless, add_new, attempt, through_ways, from_near, layer_of}
-use Rattle.lhg_motion.specs.WalkLaws.{numbered-all, all-both, all-map, all_members}
+use Rattle.lhg_motion.specs.WalkLaws.{numbered-all, all_members}
+use Rattle.lhg_math.specs.ListFacts.{all-both, all-map}
 use Rattle.lhg_union.specs.PolyLists.{lines_of}
 use Rattle.lhg_reach.specs.declared.found.Found.{Found}
 use Rattle.lhg_reach.specs.FoundParts.{plain_founds}

@@ -22,7 +22,7 @@ use Rattle.lhg_row.specs.Pieces.{are_empty, made, make, meet, closure}
 use Rattle.lhg_row.specs.PieceFacts.{IsPoly, IsClosure}
 use Rattle.lhg_row.specs.MakeLaws.{make-thin}
 use Rattle.lhg_row.specs.MeetLaws.{in_piece-both, closure-exact}
-use Rattle.lhg_row.proofs.Steps.{drop_cons}
+use Rattle.lhg_math.specs.ListFacts.{drop_cons}
 use Rattle.lhg_motion.specs.CrossCalculus.{cross}
 use Rattle.lhg_motion.specs.CrossFact.{IsCross}
 use Rattle.lhg_motion.specs.CrossLaws.{to_middle, cross-exact}

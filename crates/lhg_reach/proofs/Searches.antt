@@ -13,7 +13,7 @@ use Rattle.lhg_row.specs.System.{PlainSystem}
 use Rattle.lhg_row.specs.Lists.{covered}
 use Rattle.lhg_motion.specs.Found.{PlainFound, pieces_of}
 use Rattle.lhg_motion.specs.ReachCalculus.{numbered, added_unless}
-use Rattle.lhg_row.proofs.Steps.{drop_cons}
+use Rattle.lhg_math.specs.ListFacts.{drop_cons}
 use Rattle.lhg_union.specs.PolyLists.{lines_of}
 use Rattle.lhg_reach.specs.declared.found.Found.{Found}
 use Rattle.lhg_reach.specs.FoundParts.{plain_founds}

@@ -76,6 +76,36 @@ fn into_place<N: Scalar>(
     ensures tally { tally.old ≤ tally.new }
     ensures count { (n : ℕ) → AllThree n near.now ways.now search.old.known.items flow.now → OnOk result (tally.new ≤ tally.old + pair_count N.arithmetic n (lines_of near.now) (lines_of ways.now)) }
 {
+    match near {
+        [] => Ok(()),
+        _ => into_known(alloc, near, ways, kept, flow, place, number, search, tally),
+    }
+}
+
+// The same where there is some near piece, so that it matters which ways the piece touches.
+fn into_known<N: Scalar>(
+    alloc: Global,
+    near: &[Poly<N>],
+    ways: &[Poly<N>],
+    kept: &Kept<N>,
+    flow: &[Row<N>],
+    place: usize,
+    number: u32,
+    search: &mut Search<N>,
+    tally: &mut Tally,
+) -> Result<(), Halt>
+    requires there { place < length search.old.known.items }
+    requires few { place < piece_limit }
+    requires few_ways { length ways.now ≤ piece_limit }
+    requires over { HaveThree near.now ways.now search.old.known.items flow.now }
+    requires kept { AreKept N.arithmetic near.now ways.now kept.now.table.items kept.now.edges.items }
+    ensures step { (n : ℕ) (base : List PlainPiece) → AllThree n near.now ways.now search.old.known.items flow.now → IsSearch base search.old.known.items search.old.found.items → IsHaltedBy result (calculus.from_near N.arithmetic n flow.now base number (lines_of near.now) (calculus.numbered 0 (lines_of ways.now)) (plain_founds search.old.found.items) (record { place = place; piece = get_or (lines_of search.old.known.items) place [] })) (λ _. plain_founds search.new.found.items) }
+    ensures known { (base : List PlainPiece) → IsSearch base search.old.known.items search.old.found.items → OnOk result (IsSearch base search.new.known.items search.new.found.items) }
+    ensures vars { (n : ℕ) → AllThree n near.now ways.now search.old.known.items flow.now → OnOk result (AllVars n search.new.known.items) }
+    ensures found { (n : ℕ) → AllThree n near.now ways.now search.old.known.items flow.now → AllFoundVars n search.old.found.items → OnOk result (AllFoundVars n search.new.found.items) }
+    ensures tally { tally.old ≤ tally.new }
+    ensures count { (n : ℕ) → AllThree n near.now ways.now search.old.known.items flow.now → OnOk result (tally.new ≤ tally.old + pair_count N.arithmetic n (lines_of near.now) (lines_of ways.now)) }
+{
     let piece = search.known[place].copy(alloc)?;
     let aim = Aim {
         piece,

@@ -1,8 +1,7 @@
 -- What holds of each member of a list, member by member.
-use Rattle.std.proofs.Common.{◌≡◌, ◌<◌, ◌+◌, ℕ, zero, suc, List, [], ◌∷◌, length, map, drop, get_or, sym, subst, arith}
+use Rattle.std.proofs.Common.{◌≡◌, ◌<◌, ◌+◌, ℕ, List, length, drop, get_or, sym, subst}
 use Rattle.lhg_math.specs.Tests.{AllOf}
 use Rattle.lhg_math.specs.ListFacts.{drop_cons}
-pub use Rattle.lhg_math.specs.ListFacts.{all_map_at}
 
 -- what holds of a member and of all behind it holds of all from it on
 pub all_from : {A : Type 0} (P : A → Type 0) (xs : List A) (i : ℕ) (x : A) → i < length xs → x ≡ get_or xs i x → P x → AllOf P (drop (i + 1) xs) → AllOf P (drop i xs)

@@ -1,12 +1,11 @@
 use Rattle.std.proofs.Common.{true, sym, ◌∙◌, subst}
 use Rattle.std.specs.Prelude.{option_map}
-use Rattle.lhg_num.proofs.Halted.{part_halts_rows, rest_halts_rows, rows_exact}
+use Rattle.lhg_num.proofs.Halted.{part_halts_rows, rest_halts_rows, rows_exact, rows_on_wide}
 use Rattle.lhg_row.specs.Width.{AllWide}
 use Rattle.lhg_row.specs.HasValue.{IsEmptiness}
 use Rattle.lhg_motion.specs.CrossCalculus.{cross}
 use Rattle.lhg_motion.specs.CrossFact.{IsCross}
 use Rattle.lhg_motion.specs.CrossLaws.{cross-exact}
-use Rattle.lhg_row.proofs.Steps.{rows_on_wide}
 use Rattle.lhg_cross.proofs.CrossSteps.{formed-wide, formed-none, cross-rows_part, cross-trim_part, cross-project_rest}
 use Rattle.lhg_cross.proofs.crossing.crossing.Goals as goal
 

@@ -2,7 +2,7 @@ use Rattle.std.proofs.Common.{◌+◌, drop}
 use Rattle.lhg_num.specs.Marked.{each}
 use Rattle.lhg_num.proofs.Halted.{part_halts_wide}
 use Rattle.lhg_motion.specs.CrossCalculus.{at_middle}
-use Rattle.lhg_row.proofs.Steps.{drop_cons}
+use Rattle.lhg_math.specs.ListFacts.{drop_cons}
 use Rattle.lhg_row.proofs.BuiltSteps.{taken-part, taken-step}
 use Rattle.lhg_cross.proofs.middles.middle_rows.Goals as goal
 

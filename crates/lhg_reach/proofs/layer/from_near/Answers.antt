@@ -4,7 +4,7 @@ use Rattle.lhg_num.specs.MarkedLaws.{IsPart}
 use Rattle.lhg_num.proofs.Halted.{part_halts}
 use Rattle.lhg_row.specs.System.{PlainSystem}
 use Rattle.lhg_motion.specs.ReachCalculus.{Placed, through_ways, numbered}
-use Rattle.lhg_row.proofs.Steps.{drop_cons}
+use Rattle.lhg_math.specs.ListFacts.{drop_cons}
 use Rattle.lhg_union.specs.PolyLists.{lines_of, AllVars}
 use Rattle.lhg_union.proofs.ListFacts.{all_at}
 use Rattle.lhg_reach.specs.FoundParts.{plain_founds, AllFoundVars}
