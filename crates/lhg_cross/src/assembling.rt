@@ -34,3 +34,8 @@ pub fn cross_rows<N: Scalar>(
     rows.push(forward(alloc, n)?)?;
     Ok(rows)
 }
+
+// How many coefficients a row over two points and a time has, where the points have so many coordinates.
+pub(crate) fn room(n: usize) -> usize {
+    n.saturating_mul(2).saturating_add(1)
+}

@@ -3,6 +3,7 @@ ghost use Rattle.lhg_num.specs.Marked.{each};
 ghost use Rattle.lhg_num.specs.Halting.{IsHaltedByWide, IsWideBy};
 ghost use Rattle.lhg_motion.specs.CrossCalculus as calculus;
 
+use crate::assembling::room;
 use lhg_num::{Halt, Scalar, Wide};
 use lhg_row::Row;
 use std::alloc::Global;
@@ -24,7 +25,8 @@ fn middle_row<N: Scalar>(alloc: Global, row: &Row<N>) -> Result<Row<N>, Halt>
     ensures { IsHaltedByWide result (calculus.at_middle N.arithmetic row.now) (λ r. r) }
 {
     let bound = twice(&row.bound)?;
-    let mut coefs = Vec::from_slice(alloc, &row.coefs)?;
+    let mut coefs = Vec::with_capacity(alloc, room(row.coefs.len()))?;
+    coefs.extend_from_slice(&row.coefs)?;
     coefs.extend_from_slice(&row.coefs)?;
     coefs.push(N::zero())?;
     Ok(Row {

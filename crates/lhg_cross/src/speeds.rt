@@ -4,6 +4,7 @@ ghost use Rattle.lhg_num.specs.Marked.{done};
 ghost use Rattle.lhg_num.specs.Halting.{IsHaltedByMemory};
 ghost use Rattle.lhg_motion.specs.CrossCalculus as calculus;
 
+use crate::assembling::room;
 use lhg_num::{Halt, Scalar};
 use lhg_row::{Kind, Row, negate, widen};
 use std::alloc::Global;
@@ -25,10 +26,12 @@ fn flow_row<N: Scalar>(alloc: Global, row: &Row<N>) -> Result<Row<N>, Halt>
     ensures { IsHaltedByMemory result (done (calculus.at_flow row.now)) (λ r. r) }
 {
     let Row {
-        mut coefs,
+        coefs: mut first,
         kind: _,
         bound,
     } = negate(alloc, row)?;
+    let mut coefs = Vec::with_capacity(alloc, room(row.coefs.len()))?;
+    coefs.append(&mut first)?;
     coefs.extend_from_slice(&row.coefs)?;
     coefs.push(bound)?;
     Ok(Row {

@@ -1,7 +1,7 @@
 -- Which rows of the last elimination are enough for the piece that a system projects to?
-use Rattle.std.specs.Prelude.{◌≡◌, ◌⊎◌, ℕ, zero, suc, ◌+◌, ◌-◌, ◌<◌, ◌≤◌, Bool, true, false, not, [], ◌∷◌, length, take, drop, filter, Some, None}
+use Rattle.std.specs.Prelude.{◌≡◌, ◌⊎◌, ℕ, zero, suc, ◌+◌, ◌-◌, ◌<◌, ◌≤◌, Bool, true, false, not, [], ◌∷◌, ◌++◌, length, take, drop, filter, Some, None}
 use Rattle.std.proofs.Common.{refl, sym, ap, ◌∙◌, arith, subst, inl, inr}
-use Rattle.std.proofs.lemmas.List.{take-append-drop, length-take-le, length-drop}
+use Rattle.std.proofs.lemmas.List.{take-append-drop, length-take-le, length-drop, length-append}
 use Rattle.std.proofs.lemmas.Bool.{and_parts}
 use Rattle.std.specs.declared.cmp.Ordering.{Ordering}
 use Rattle.std.specs.declared.cmp.Ordering.TheVariants.{Less, Equal, Greater}
@@ -135,6 +135,25 @@ point_left a kept count n rows laws e w p =
           (record { later = drop kept z; many = length-drop kept z ∙ omega (arith, e, p.wide); inside = subst (InPiece rows) (sym (take-append-drop kept z)) p.holds });
     }
 
+-- and a point of what is left one of the rows
+point_before : (a : Arithmetic) (kept count n : ℕ) (rows : PlainPiece) → IsLawful a → n ≡ kept + count → AllWide n rows → HasPoint kept (eliminate_last a kept count rows).value → HasPoint n rows
+point_before a kept count n rows laws e w p =
+    let c = (eliminate_last-exact a kept count n rows p.point laws e w p.wide).0 p.holds in
+    record { point = p.point ++ c.later; wide = let m = c.many in let l = p.wide in length-append p.point c.later ∙ omega (arith, e, m, l); holds = c.inside }
+
+-- the last elimination of the rows before it leaves what is left of all
+pub last_left : (a : Arithmetic) (n keep : ℕ) (rows before : PlainPiece) → keep < n → before ≡ (eliminate_last a (keep + 1) (n - (keep + 1)) rows).value
+    → (eliminate_last a keep (keep + 1 - keep) before).value ≡ (eliminate_last a keep (n - keep) rows).value
+last_left a n keep rows before h e =
+    let count = n - (keep + 1) in
+    let one : keep + 1 - keep ≡ suc zero = omega arith in
+    let m : n - keep ≡ suc count = omega (arith, h) in
+    ap (λ c. (eliminate_last a keep c before).value) one
+    ∙ last_first a keep zero before
+    ∙ ap (λ rs. (eliminate a keep rs).value) e
+    ∙ sym (last_first a keep count rows)
+    ∙ ap (λ c. (eliminate_last a keep c rows).value) (sym m)
+
 -- the rows before the last elimination are over one variable more
 pub before-wide : (a : Arithmetic) (n keep : ℕ) (rows before : PlainPiece) → IsLawful a → keep < n → AllWide n rows → before ≡ (eliminate_last a (keep + 1) (n - (keep + 1)) rows).value → AllWide (keep + 1) before
 before-wide a n keep rows before laws h w is =
@@ -203,9 +222,9 @@ module _ (a : Arithmetic) (keep : ℕ) (laws : IsLawful a) (before : PlainPiece)
     }
 
 -- the rows that are chosen are a pruning
-pub chosen-pruning : (a : Arithmetic) (n keep : ℕ) (rows before chosen : PlainPiece) → IsLawful a → keep < n → AllWide n rows → HasPoint n rows
+pub chosen-pruning : (a : Arithmetic) (n keep : ℕ) (rows before chosen : PlainPiece) → IsLawful a → keep < n → AllWide n rows
     → before ≡ (eliminate_last a (keep + 1) (n - (keep + 1)) rows).value → (pair_at a keep 0 before).value ≡ None → IsChosen a keep before chosen → IsPruning a n keep rows chosen
-chosen-pruning a n keep rows before chosen laws h w p e alone f =
+chosen-pruning a n keep rows before chosen laws h w e alone f =
     let keeps = is_wanted a f.choice.wanted in
     let by = wanted-by_direction a f.choice.wanted in
     let count = n - (keep + 1) in
@@ -213,7 +232,8 @@ chosen-pruning a n keep rows before chosen laws h w p e alone f =
     let first : n ≡ keep + 1 + count = omega (arith, h) in
     let all : n ≡ keep + suc count = omega (arith, h) in
     let wb : AllWide (keep + 1) before = before-wide a n keep rows before laws h w e in
-    let pb : HasPoint (keep + 1) before = subst (HasPoint (keep + 1)) (sym e) (point_left a (keep + 1) count n rows laws first w p) in
+    let pb : HasPoint (keep + 1) before = f.some in
+    let p : HasPoint n rows = point_before a (keep + 1) count n rows laws first w (subst (HasPoint (keep + 1)) e pb) in
     let made = (without a keep before None).value in
     let is : (eliminate_last a keep (suc count) rows).value ≡ (trim a made).value =
     last_first a keep count rows ∙ ap (λ rs. (eliminate a keep rs).value) (sym e) ∙ elimination a keep laws before wb pb alone keeps by in

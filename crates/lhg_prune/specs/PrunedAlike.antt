@@ -1,4 +1,4 @@
--- Does the pruning of whole rows make the piece that another number type makes?
+-- Does what is left of whole rows make the piece that another number type makes?
 use Rattle.std.specs.Prelude.{◌≡◌, ◌⊎◌, ℕ, ◌+◌, ◌-◌, ◌≤◌, Bool, true, false, ◌&&◌, List, [], ◌∷◌, filter}
 use Rattle.std.proofs.Common.{refl, sym, ap, ◌∙◌, arith, subst, inl, inr}
 use Rattle.lhg_math.specs.Number.{Number, mul, lt, nought}
@@ -24,7 +24,7 @@ use Rattle.lhg_elim.specs.Turned.{AllTurned}
 use Rattle.lhg_elim.specs.TurnedLaws.{turned-back}
 use Rattle.lhg_prune.specs.Touch.{strictly, IsTouchedBy, IsTouched, AreEnough}
 use Rattle.lhg_prune.specs.Directions.{IsByDirection}
-use Rattle.lhg_prune.specs.Pruning.{IsPruning}
+use Rattle.lhg_prune.specs.Pruning.{IsPruning, IsLeft}
 use Rattle.lhg_prune.specs.Pruned.{point_left, filter-trimmed, pruning-piece}
 
 -- ---- directions
@@ -118,7 +118,7 @@ module _ (a : Arithmetic) (n : ℕ) where
 
 -- ---- the piece
 -- the pruning of alike rows, turned back, is over the first variables, and makes the piece that the rows project to
-pub pruned_alike : (a w : Arithmetic) (n keep : ℕ) (rows others kept back : PlainPiece) → IsLawful a → IsLawful w → keep ≤ n → IsSystem a n rows → AllAlike a rows others
+pruned_alike : (a w : Arithmetic) (n keep : ℕ) (rows others kept back : PlainPiece) → IsLawful a → IsLawful w → keep ≤ n → IsSystem a n rows → AllAlike a rows others
     → IsPruning w n keep others kept → AllTurned a kept back → AllWide keep back × ((project a n keep rows).value ≡ (make a keep back).value)
 pruned_alike a w n keep rows others kept back laws wlaws h s alike p turned =
     let count = n - keep in
@@ -141,3 +141,21 @@ pruned_alike a w n keep rows others kept back laws wlaws h s alike p turned =
     let fa : AllAlike a fewer kept = subst (AllAlike a fewer) (sym p.is) (alike-filter a keep left (eliminate_last w keep count others).value la p.keeps by.multiple left (eliminate_last w keep count others).value la) in
     let back_is : back ≡ fewer = turned-back a laws fewer kept back (trimmed-settled a fewer laws t) fa turned in
     (subst (AllWide keep) (sym back_is) (filter-wide keep p.keeps left sl.wide), pruning-piece a n keep rows fewer laws h s q ∙ ap (λ rs. (make a keep rs).value) (sym back_is))
+
+-- so does all that is left
+all_alike : (a w : Arithmetic) (n keep : ℕ) (rows others kept back : PlainPiece) → IsLawful a → IsLawful w → keep ≤ n → IsSystem a n rows → AllAlike a rows others
+    → kept ≡ (eliminate_last w keep (n - keep) others).value → AllTurned a kept back → AllWide keep back × ((project a n keep rows).value ≡ (make a keep back).value)
+all_alike a w n keep rows others kept back laws wlaws h s alike is turned =
+    let count = n - keep in
+    let left = (eliminate_last a keep count rows).value in
+    let all : n ≡ keep + count = omega (arith, h) in
+    let la : AllAlike a left kept = subst (AllAlike a left) (sym is) (eliminate_last-alike a w keep count laws wlaws rows others alike) in
+    let sl : IsSystem a keep left = eliminate_last-system a keep count n rows laws all s in
+    let back_is : back ≡ left = turned-back a laws left kept back (trimmed-settled a left laws sl.trimmed) la turned in
+    (subst (AllWide keep) (sym back_is) sl.wide, ap (λ rs. (make a keep rs).value) (sym back_is))
+
+-- the one or the other
+pub left_alike : (a w : Arithmetic) (n keep : ℕ) (rows others kept back : PlainPiece) → IsLawful a → IsLawful w → keep ≤ n → IsSystem a n rows → AllAlike a rows others
+    → IsLeft w n keep others kept → AllTurned a kept back → AllWide keep back × ((project a n keep rows).value ≡ (make a keep back).value)
+left_alike a w n keep rows others kept back laws wlaws h s alike (inl is) turned = all_alike a w n keep rows others kept back laws wlaws h s alike is turned
+left_alike a w n keep rows others kept back laws wlaws h s alike (inr p) turned = pruned_alike a w n keep rows others kept back laws wlaws h s alike p turned

@@ -1,5 +1,5 @@
 -- What is a projected list without rows that its piece does not need?
-use Rattle.std.specs.Prelude.{◌≡◌, ℕ, ◌-◌, Bool, filter}
+use Rattle.std.specs.Prelude.{◌≡◌, ◌⊎◌, ℕ, ◌-◌, Bool, filter}
 use Rattle.lhg_num.specs.Arithmetic.{Arithmetic}
 use Rattle.lhg_row.specs.Row.{PlainRow}
 use Rattle.lhg_row.specs.Piece.{PlainPiece}
@@ -15,3 +15,7 @@ pub record IsPruning (a : Arithmetic) (n keep : ℕ) (rows kept : PlainPiece) : 
   pub by : IsByDirection a keeps
   pub is : kept ≡ filter keeps (eliminate_last a keep (n - keep) rows).value
   pub enough : AreEnough keep (eliminate_last a keep (n - keep) rows).value keeps
+
+-- kept is all that is left without the later variables, or a pruning of it
+abbrev pub IsLeft : Arithmetic → ℕ → ℕ → PlainPiece → PlainPiece → Type 0
+IsLeft a n keep rows kept = (kept ≡ (eliminate_last a keep (n - keep) rows).value) ⊎ IsPruning a n keep rows kept

@@ -1,12 +1,13 @@
 // The last elimination, with the rows alone that the piece of what is left needs.
-ghost use Rattle.std.specs.Prelude.{◌≡◌, ◌<◌, ◌+◌, true, false, length, map, take, IfOk};
+ghost use Rattle.std.specs.Prelude.{◌≡◌, ◌<◌, ◌+◌, true, false, length, map, take, IfOk, None};
 ghost use Rattle.lhg_math.specs.Tests.{AllOf};
+ghost use Rattle.lhg_row.specs.Eliminate as calculus;
 ghost use Rattle.lhg_row.specs.Members.{SomeOf};
 ghost use Rattle.lhg_row.specs.Piece.{in_piece};
 ghost use Rattle.lhg_row.specs.Row.{PlainPoint, holds_at};
 ghost use Rattle.lhg_row.specs.Width.{AllWide};
 ghost use Rattle.lhg_prune.specs.Chosen.{IsSeatedChoice, IsChosen};
-ghost use Rattle.lhg_prune.specs.Pruning.{IsPruning};
+ghost use Rattle.lhg_prune.specs.Pruning.{IsLeft};
 ghost use Rattle.lhg_prune.specs.Touch.{strictly};
 
 use crate::directions::push_unwanted;
@@ -16,44 +17,42 @@ use crate::kinds::{strict_rows, weak_rows};
 use crate::seats::{are_seats, fail_somewhere, firm_rows, firsts};
 use crate::touching::touch_points;
 use lhg_elim::{eliminate_later, pair};
-use lhg_num::{Frac, Halt, Scalar};
+use lhg_num::{Frac, Halt, Scalar, Wide};
 use lhg_poly::{Poly, includes, make, project};
 use lhg_row::{Point, Row, copy_rows, is_lower, is_upper, trim};
-use lhg_simplex::decide;
 use std::alloc::Global;
 
-/// The list over the first `keep` variables without rows that its piece does not need, for rows over `vars` variables that have a point.
-/// It halts where the rows are not found to have one, where an equation fixes the last variable to be eliminated, where its elimination has at most `few` combinations, where the
-/// rows that are needed are not found, and where a list or a number is past a limit on this way.
-pub(crate) fn pruned_rows<N: Scalar>(
+/// What is left over the first `keep` variables without the later ones: all rows, or, where the last elimination has more than `few` combinations, those that the piece needs.
+/// It halts where these are not found, and where a list or a number is past a limit on this way.
+pub(crate) fn left_rows<N: Scalar>(
     alloc: Global,
     vars: usize,
-    rows: &[Row<N>],
+    rows: Vec<Row<N>>,
     keep: usize,
     few: usize,
 ) -> Result<Vec<Row<N>>, Halt>
     requires keep { keep < vars }
-    requires wide { AllWide vars rows.now }
-    ensures { IfOk result (λ v. IsPruning N.arithmetic vars keep rows.now v.items) }
+    requires wide { AllWide vars rows.items }
+    ensures { IfOk result (λ v. IsLeft N.arithmetic vars keep rows.items v.items) }
 {
-    let Some(base) = fractions(alloc, rows)? else {
-        return Err(Halt::Wide);
-    };
-    let known = decide(alloc, vars, &base)?;
-    let none = known.unwrap_or(true);
-    if none {
-        return Err(Halt::Rows);
-    }
-    let copies = copy_rows(alloc, rows)?;
-    let before = eliminate_later(alloc, vars, copies, keep + 1)?;
-    let mates = pair(&before, keep)?;
-    if mates.is_some() {
-        return Err(Halt::Rows);
-    }
-    if has_few(&before, keep, few) {
-        return Err(Halt::Rows);
+    let before = eliminate_later(alloc, vars, rows, keep + 1)?;
+    let short = is_short(&before, keep, few)?;
+    if short {
+        return eliminate_later(alloc, keep + 1, before, keep);
     }
     chosen(alloc, keep, keep + 1, &before)
+}
+
+// Whether the elimination of the variable is by an equation, or has at most so many combinations.
+fn is_short<N: Scalar>(rows: &[Row<N>], k: usize, few: usize) -> Result<bool, Wide>
+    requires { AllWide (k + 1) rows.now }
+    ensures { IfOk result (λ b. b ≡ false → (calculus.pair_at N.arithmetic k 0 rows.now).value ≡ None) }
+{
+    let mates = pair(rows, k)?;
+    if mates.is_some() {
+        return Ok(true);
+    }
+    Ok(has_few(rows, k, few))
 }
 
 // Whether the variable has at most so many combinations of an upper with a lower row.

@@ -3,7 +3,7 @@ ghost use Rattle.std.specs.Prelude.{◌≡◌, IfOk, length};
 ghost use Rattle.lhg_row.specs.Width.{AllWide};
 
 use crate::project_further;
-use crate::projecting::pruned;
+use crate::projecting::by_whole;
 use lhg_num::{Frac, Halt};
 use lhg_poly::{Poly, project};
 use lhg_row::{Kind, Row, System, trim, whole_row};
@@ -70,12 +70,12 @@ fn are(piece: &Poly<Frac>, other: &Poly<Frac>) -> bool {
 fn prunes_to_the_same_piece(rt: HostRuntime) -> Result<(), Fail> {
     let system = system(rt.alloc(), &CORNER)?;
     let plain = project(rt.alloc(), &system, 2)?.ok_or("none")?;
-    let short = pruned(rt.alloc(), &system, 2, 0)?.ok_or("none")?;
+    let short = by_whole(rt.alloc(), &system, 2, 0)?.ok_or("none")?;
     assert!(rt; are(&short, &plain));
     let further = project_further(rt.alloc(), &system, 2)?.ok_or("none")?;
     assert!(rt; are(&further, &plain));
     let line = project(rt.alloc(), &system, 1)?.ok_or("none")?;
-    let short = pruned(rt.alloc(), &system, 1, 0)?.ok_or("none")?;
+    let short = by_whole(rt.alloc(), &system, 1, 0)?.ok_or("none")?;
     assert!(rt; are(&short, &line));
     Ok(())
 }

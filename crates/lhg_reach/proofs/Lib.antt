@@ -1,3 +1,4 @@
+pub mod Befores
 pub mod Cases
 pub mod Growing
 pub mod Newest

@@ -27,7 +27,7 @@ use Rattle.lhg_motion.specs.CrossCalculus.{cross}
 use Rattle.lhg_motion.specs.CrossFact.{IsCross}
 use Rattle.lhg_motion.specs.CrossLaws.{to_middle, cross-exact}
 use Rattle.lhg_union.specs.PolyLists.{lines_of, AllVars, ArePolys}
-use Rattle.lhg_reach.specs.Neighbours.{meet_edge, meet_closure, is_there, is_marked, counts, way_count, ways_count, pair_count, EachWith, IsEntry, IsFlag, IsEdge, IsTold}
+use Rattle.lhg_reach.specs.Neighbours.{meet_edge, meet_closure, is_there, is_marked, counts, way_count, ways_count, pair_count, EachWith, IsEntry, IsFlag, IsEdge, IsTold, IsHint}
 use Rattle.lhg_reach.proofs.Growing.{then-part}
 
 -- ---- two lists, member by member
@@ -107,6 +107,11 @@ pub told_answer : (a : Arithmetic) (n : ℕ) (start : PlainPiece) (edge : PlainS
 told_answer a n start edge true e h = λ x l i k. h x l (in_piece-both start edge.lines x i k)
 told_answer a n start edge false e h = or_left _ _ (ap is_there (make-thin a n (start ++ edge.lines) (sym e)))
 
+-- what is told is a hint
+pub told-hint : (a : Arithmetic) (n : ℕ) (into : PlainPiece) (edge : Option PlainSystem) (b : Bool) → IsTold a n into edge b → IsHint a n into edge b
+told-hint a n into edge true h = tt
+told-hint a n into edge false h = h
+
 -- a limit that is passed tells it too
 pub told_halt : (a : Arithmetic) (n : ℕ) (start : PlainPiece) (edge : PlainSystem) (e : Halt) → ¬ (e ≡ Memory) → IsHaltedByRows {T = Bool} (Err e) (are_empty a n (start ++ edge.lines)) (λ b. b) → IsTold a n start (Some edge) true
 told_halt a n start edge Wide other h = or_right _ _ (marked-wide (meet a n start edge.lines) ((make-part a n (start ++ edge.lines)).wide h))
@@ -172,7 +177,7 @@ module _ (a : Arithmetic) (n : ℕ) (laws : IsLawful a) (start : PlainPiece) (st
           absurd (h m.to k m.into_in ((closed.points m.to k).1 m.end_edge))
 
   -- and makes the flag of a piece that crossings lead into
-  pub told-flag : (way : PlainSystem) (edge : Option PlainSystem) (b : Bool) → way.width ≡ n → IsPoly a way.width way.lines → IsEdge a way edge → IsTold a n start edge b → IsFlag a n start way.lines b
+  pub told-flag : (way : PlainSystem) (edge : Option PlainSystem) (b : Bool) → way.width ≡ n → IsPoly a way.width way.lines → IsEdge a way edge → IsHint a n start edge b → IsFlag a n start way.lines b
   told-flag way None true w p e t = tt
   told-flag way None false w p e t = false_true t
   told-flag way (Some edge) true w p e t = tt
@@ -203,9 +208,9 @@ told-entries a start laws wide ways edges row v p e t =
 
 -- the flags of one piece that crossings lead into
 pub told-flags : (a : Arithmetic) (into : PlainSystem) → IsLawful a → AllWide into.width into.lines → (ways : List PlainSystem) (edges : List (Option PlainSystem)) (row : List Bool) → AllVars into.width ways → ArePolys a ways
-    → EachWith (IsEdge a) ways edges → EachWith (IsTold a into.width into.lines) edges row → EachWith (λ (way : PlainSystem) b. IsFlag a into.width into.lines way.lines b) ways row
+    → EachWith (IsEdge a) ways edges → EachWith (IsHint a into.width into.lines) edges row → EachWith (λ (way : PlainSystem) b. IsFlag a into.width into.lines way.lines b) ways row
 told-flags a into laws wide ways edges row v p e t =
-    with_both (IsWay a into.width) (IsEdge a) (IsTold a into.width into.lines) (λ (way : PlainSystem) b. IsFlag a into.width into.lines way.lines b)
+    with_both (IsWay a into.width) (IsEdge a) (IsHint a into.width into.lines) (λ (way : PlainSystem) b. IsFlag a into.width into.lines way.lines b)
     (λ way edge b w i k. told-flag a into.width laws into.lines wide way edge b w.0 w.1 i k) ways edges row (are_ways a into.width ways v p) e t
 
 -- the edges are over as many variables

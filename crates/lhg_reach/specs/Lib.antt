@@ -1,3 +1,4 @@
+pub mod Before
 pub mod FoundParts
 pub mod Neighbours
 pub mod Newest

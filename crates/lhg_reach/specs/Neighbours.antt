@@ -86,6 +86,11 @@ IsTold a n start None b = b ≡ true
 IsTold a n start (Some edge) false = (x : PlainPoint) → length x ≡ n → InPiece start x → ¬ InPiece edge.lines x
 IsTold a n start (Some edge) true = (is_there (meet a n start edge.lines).value || is_marked (meet a n start edge.lines)) ≡ true
 
+-- the same, but true says nothing
+abbrev pub IsHint : Arithmetic → ℕ → PlainPiece → Option PlainSystem → Bool → Type 0
+IsHint a n into edge false = IsTold a n into edge false
+IsHint a n into edge true = Unit {0}
+
 -- ---- all that is kept
 -- the table, and the closures of the ways, which are pieces
 pub record AreKept (a : Arithmetic) (near ways : List PlainSystem) (table : List (Vec Bool)) (edges : List (Option PlainSystem)) : Type 0 where

@@ -1,4 +1,4 @@
-// One layer: the crossings into each of the newest known pieces, from each near piece, through each way whose closure touches both.
+// One layer: the crossings into each of the newest known pieces, from each near piece that is open to it, through each way whose closure touches both.
 ghost use Rattle.std.specs.Prelude.{◌≡◌, ◌≤◌, ◌<◌, ◌+◌, ◌*◌, ℕ, List, [], length, get_or, OnOk};
 ghost use Rattle.lhg_num.specs.Halting.{IsHaltedBy};
 ghost use Rattle.lhg_row.specs.Piece.{PlainPiece};
@@ -8,12 +8,14 @@ ghost use Rattle.lhg_motion.specs.ReachCalculus as calculus;
 ghost use Rattle.lhg_union.specs.PolyLists.{lines_of, AllVars};
 ghost use Rattle.lhg_reach.specs.FoundParts.{plain_founds, AllFoundVars};
 ghost use Rattle.lhg_reach.specs.Neighbours.{EachWith, IsEntry, IsFlag, IsTable, AreKept, pair_count, way_count, ways_count};
+ghost use Rattle.lhg_reach.specs.Before.{IsOpening};
 ghost use Rattle.lhg_reach.specs.Newest.{IsNewest};
 ghost use Rattle.lhg_reach.specs.Searching.{IsSearch};
 ghost use Rattle.lhg_reach.specs.Widths.{AllThree, HaveThree};
 
 use crate::kept::Kept;
-use crate::neighbours::entries;
+use crate::neighbours::hints;
+use crate::openings::openings;
 use crate::search::{Aim, Search, attempt};
 use lhg_cross::Tally;
 use lhg_num::{Halt, Scalar};
@@ -139,13 +141,15 @@ fn into_aim<N: Scalar>(
     ensures tally { tally.old ≤ tally.new }
     ensures count { OnOk result (tally.new ≤ tally.old + pair_count N.arithmetic aim.now.piece.width (lines_of near.now) (lines_of ways.now)) }
 {
-    let flags = entries(alloc, &aim.piece, &kept.edges)?;
+    let opens = openings(alloc, near, &aim.piece, flow)?;
+    let flags = hints(alloc, &aim.piece, &kept.edges, &kept.table, &opens)?;
     from_near(
         alloc,
         near,
         ways,
         &kept.table,
         &flags,
+        &opens,
         aim,
         flow,
         search,
@@ -160,6 +164,7 @@ fn from_near<N: Scalar>(
     ways: &[Poly<N>],
     table: &[Vec<bool>],
     flags: &[bool],
+    opens: &[bool],
     aim: &Aim<N>,
     flow: &[Row<N>],
     search: &mut Search<N>,
@@ -173,6 +178,7 @@ fn from_near<N: Scalar>(
     requires aim { AllWide aim.now.piece.width aim.now.piece.lines }
     requires table { IsTable N.arithmetic near.now ways.now table.now }
     requires flags { EachWith (λ way b. IsFlag N.arithmetic aim.now.piece.width aim.now.piece.lines way.lines b) ways.now flags.now }
+    requires opens { EachWith (λ start b. IsOpening N.arithmetic aim.now.piece.width aim.now.piece.lines flow.now start.lines b) near.now opens.now }
     ensures step { (base : List PlainPiece) → IsSearch base search.old.known.items search.old.found.items → IsHaltedBy result (calculus.from_near N.arithmetic aim.now.piece.width flow.now base aim.now.layer (lines_of near.now) (calculus.numbered 0 (lines_of ways.now)) (plain_founds search.old.found.items) (record { place = aim.now.place; piece = aim.now.piece.lines })) (λ _. plain_founds search.new.found.items) }
     ensures known { (base : List PlainPiece) → IsSearch base search.old.known.items search.old.found.items → OnOk result (IsSearch base search.new.known.items search.new.found.items) }
     ensures vars { OnOk result (AllVars aim.now.piece.width search.new.known.items) }
@@ -182,19 +188,20 @@ fn from_near<N: Scalar>(
 {
     for j in 0..near.len() {
         through_ways(
-            alloc, &near[j], ways, &table[j], flags, aim, flow, search, tally,
+            alloc, &near[j], ways, &table[j], flags, opens[j], aim, flow, search, tally,
         )?;
     }
     Ok(())
 }
 
-// The crossings through each of the ways that have an entry and a flag.
+// The crossings through each of the ways that have an entry and a flag, where the near piece is open.
 fn through_ways<N: Scalar>(
     alloc: Global,
     from: &Poly<N>,
     ways: &[Poly<N>],
     entries: &[bool],
     flags: &[bool],
+    opening: bool,
     aim: &Aim<N>,
     flow: &[Row<N>],
     search: &mut Search<N>,
@@ -208,6 +215,7 @@ fn through_ways<N: Scalar>(
     requires aim_wide { AllWide from.now.width aim.now.piece.lines }
     requires entries { EachWith (λ way b. IsEntry N.arithmetic from.now.width from.now.lines way.lines b) ways.now entries.now }
     requires flags { EachWith (λ way b. IsFlag N.arithmetic from.now.width aim.now.piece.lines way.lines b) ways.now flags.now }
+    requires opening { IsOpening N.arithmetic from.now.width aim.now.piece.lines flow.now from.now.lines opening }
     ensures step { (base : List PlainPiece) → IsSearch base search.old.known.items search.old.found.items → IsHaltedBy result (calculus.through_ways N.arithmetic from.now.width flow.now base aim.now.layer (calculus.numbered 0 (lines_of ways.now)) (record { place = aim.now.place; piece = aim.now.piece.lines }) (plain_founds search.old.found.items) from.now.lines) (λ _. plain_founds search.new.found.items) }
     ensures known { (base : List PlainPiece) → IsSearch base search.old.known.items search.old.found.items → OnOk result (IsSearch base search.new.known.items search.new.found.items) }
     ensures vars { OnOk result (AllVars from.now.width search.new.known.items) }
@@ -219,13 +227,13 @@ fn through_ways<N: Scalar>(
         let entry = entries[i];
         let flag = flags[i];
         through_way(
-            alloc, from, &ways[i], i as u32, entry, flag, aim, flow, search, tally,
+            alloc, from, &ways[i], i as u32, entry, flag, opening, aim, flow, search, tally,
         )?;
     }
     Ok(())
 }
 
-// The crossing through one way, where it has an entry and a flag.
+// The crossing through one way, where it has an entry and a flag and the near piece is open.
 fn through_way<N: Scalar>(
     alloc: Global,
     from: &Poly<N>,
@@ -233,6 +241,7 @@ fn through_way<N: Scalar>(
     through: u32,
     entry: bool,
     flag: bool,
+    opening: bool,
     aim: &Aim<N>,
     flow: &[Row<N>],
     search: &mut Search<N>,
@@ -245,6 +254,7 @@ fn through_way<N: Scalar>(
     requires aim_wide { AllWide from.now.width aim.now.piece.lines }
     requires entry { IsEntry N.arithmetic from.now.width from.now.lines way.now.lines entry }
     requires flag { IsFlag N.arithmetic from.now.width aim.now.piece.lines way.now.lines flag }
+    requires opening { IsOpening N.arithmetic from.now.width aim.now.piece.lines flow.now from.now.lines opening }
     ensures step { (base : List PlainPiece) → IsSearch base search.old.known.items search.old.found.items → IsHaltedBy result (calculus.attempt N.arithmetic from.now.width flow.now base aim.now.layer (record { place = aim.now.place; piece = aim.now.piece.lines }) from.now.lines (plain_founds search.old.found.items) (record { place = through; piece = way.now.lines })) (λ _. plain_founds search.new.found.items) }
     ensures known { (base : List PlainPiece) → IsSearch base search.old.known.items search.old.found.items → OnOk result (IsSearch base search.new.known.items search.new.found.items) }
     ensures vars { OnOk result (AllVars from.now.width search.new.known.items) }
@@ -258,6 +268,11 @@ fn through_way<N: Scalar>(
     if !flag {
         // A look at the rows tells that all have as many variables.
         let _ = from.rows();
+        return Ok(());
+    }
+    if !opening {
+        // A look at the rows tells that all have as many variables.
+        let _ = way.rows();
         return Ok(());
     }
     attempt(alloc, from, way, through, aim, flow, search, tally)

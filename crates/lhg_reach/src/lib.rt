@@ -6,6 +6,7 @@ mod kept;
 pub mod laws;
 mod layer;
 mod neighbours;
+mod openings;
 mod reaching;
 mod search;
 #[cfg(test)]

@@ -5,7 +5,7 @@ ghost use Rattle.lhg_num.specs.Marked.{done};
 ghost use Rattle.lhg_num.specs.Halting.{IsHaltedByMemory};
 ghost use Rattle.lhg_row.specs.Width.{AllWide};
 ghost use Rattle.lhg_union.specs.PolyLists.{AllVars, ArePolys, HaveVars};
-ghost use Rattle.lhg_reach.specs.Neighbours.{EachWith, IsEdge, AreKept, IsTold};
+ghost use Rattle.lhg_reach.specs.Neighbours.{EachWith, IsEdge, AreKept, IsTold, IsHint};
 
 use crate::kept::Kept;
 use lhg_num::{Halt, Scalar};
@@ -78,6 +78,56 @@ pub(crate) fn entries<N: Scalar>(
         row.push(told)?;
     }
     Ok(row)
+}
+
+/// The same, but only for closures that count with an open near piece; for all others the entry says that there is a common point.
+pub(crate) fn hints<N: Scalar>(
+    alloc: Global,
+    into: &Poly<N>,
+    edges: &[Option<Poly<N>>],
+    table: &[Vec<bool>],
+    opens: &[bool],
+) -> Result<Vec<bool>, Halt>
+    requires { AllOf (λ o. IfSome o (λ e. e.width ≡ into.now.width)) edges.now }
+    ensures halts { IsHaltedByMemory result (done true) (λ _. true) }
+    ensures told { IfOk result (λ v. EachWith (IsHint N.arithmetic into.now.width into.now.lines) edges.now v.items) }
+    ensures wide { AllWide into.now.width into.now.lines }
+{
+    let _ = into.rows();
+    let mut row = Vec::with_capacity(alloc, edges.len())?;
+    for i in 0..edges.len() {
+        let asked = counts_with_open(table, opens, i);
+        let hint = hint(alloc, into, &edges[i], asked)?;
+        row.push(hint)?;
+    }
+    Ok(row)
+}
+
+// The entry of one closure, where it is asked for.
+fn hint<N: Scalar>(
+    alloc: Global,
+    into: &Poly<N>,
+    edge: &Option<Poly<N>>,
+    asked: bool,
+) -> Result<bool, Halt>
+    requires { IfSome edge.now (λ e. e.width ≡ into.now.width) }
+    ensures halts { IsHaltedByMemory result (done true) (λ _. true) }
+    ensures told { IfOk result (IsHint N.arithmetic into.now.width into.now.lines edge.now) }
+{
+    if !asked {
+        return Ok(true);
+    }
+    entry(alloc, into, edge)
+}
+
+// Whether the way at place i counts with some open near piece.
+fn counts_with_open(table: &[Vec<bool>], opens: &[bool], i: usize) -> bool {
+    for (row, open) in table.iter().zip(opens) {
+        if *open && row.get(i) == Some(&true) {
+            return true;
+        }
+    }
+    false
 }
 
 // Whether the piece has a common point with the closure, or there is none.

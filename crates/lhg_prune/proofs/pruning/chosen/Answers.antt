@@ -5,6 +5,7 @@ use Rattle.lhg_num.specs.FracArithmetic.{frac_arithmetic}
 use Rattle.lhg_row.specs.Piece.{PlainPiece, InPiece, in_piece}
 use Rattle.lhg_row.specs.PieceFacts.{IsMade, IsProjection}
 use Rattle.lhg_row.specs.PieceLemmas.{in_piece_is}
+use Rattle.lhg_row.specs.HasValue.{HasPoint}
 use Rattle.lhg_row.specs.System.{PlainSystem}
 use Rattle.lhg_row.specs.Width.{AllWide}
 use Rattle.lhg_prune.proofs.ListSteps.{last-value}
@@ -29,7 +30,14 @@ returns g c =
     subst (λ (s : PlainSystem). IsProjection frac_arithmetic k (s.width - k) s.lines (option_map (λ (p : PlainSystem). p.lines) (Some left))) c.system.ensures.system
     (subst (λ o. IsProjection frac_arithmetic k (c.system.result.now.width - k) c.system.result.now.lines (option_map (λ (p : PlainSystem). p.lines) o)) c.in-Some-3.is c.in_ok-left.ensures.points) in
     let one : whole.width - k ≡ 1 = let v = c.requires.vars in omega (arith, width, v) in
+    let point = made.poly.point in
+    let some : HasPoint (k + 1) before = record {
+      point = point.point;
+      wide = point.wide ∙ c.requires.vars;
+      holds = (in_piece_is before point.point).1 (sym (ap (λ (rs : PlainPiece). in_piece rs point.point) copied) ∙ sym (made.points point.point point.wide) ∙ (in_piece_is whole.lines point.point).0 point.holds);
+    } in
     record {
+      some = some;
       choice = c.in_ok-rows.ensures.choice;
       points = λ x l i.
           let there = c.in_ok-within.ensures c.if-not-within.false x l (ap (λ (rs : PlainPiece). in_piece rs x) c.deref-4.ensures.value ∙ i) in

@@ -1,4 +1,4 @@
-use Rattle.std.proofs.Common.{◌≡◌, ◌+◌, ◌∙◌, sym, ap, subst, drop, arith}
+use Rattle.std.proofs.Common.{◌≡◌, Bool, ◌+◌, ◌∙◌, sym, ap, subst, drop, arith}
 use Rattle.lhg_num.specs.Marked.{walk}
 use Rattle.lhg_num.specs.MarkedLaws.{IsPart}
 use Rattle.lhg_num.proofs.Halted.{part_halts}
@@ -8,8 +8,9 @@ use Rattle.lhg_math.specs.ListFacts.{drop_cons}
 use Rattle.lhg_union.specs.PolyLists.{lines_of, AllVars}
 use Rattle.lhg_union.proofs.ListFacts.{all_at}
 use Rattle.lhg_reach.specs.FoundParts.{plain_founds, AllFoundVars}
+use Rattle.lhg_reach.specs.Before.{IsOpening}
 use Rattle.lhg_reach.specs.Neighbours.{EachWith, IsEntry, IsFlag, AreEntries}
-use Rattle.lhg_reach.proofs.Pairs.{with_at, with_length, count-near}
+use Rattle.lhg_reach.proofs.Pairs.{with_at, with_get, with_length, count-near}
 use Rattle.lhg_reach.proofs.Searches.{searching-part, searching-step}
 use Rattle.lhg_reach.proofs.layer.from_near.Goals as goal
 
@@ -50,6 +51,19 @@ through_ways-requires-clause-flags g c =
     let from = c.index-near-j.result in
     let width : from.width ≡ n = all_at (λ (p : PlainSystem). p.width ≡ n) c.args.near.now c.loop-j.j from c.index-near-j.is c.loop-j-test.true c.requires.near in
     subst (λ m. EachWith (λ (way : PlainSystem) b. IsFlag g.N.Scalar.arithmetic m c.args.aim.now.piece.lines way.lines b) c.args.ways.now c.args.flags.now) (sym width) c.requires.flags
+
+pub bounds-opens-j : goal.bounds-opens-j
+bounds-opens-j g c =
+    let aim = c.args.aim.now.piece in
+    let many = with_length (λ (start : PlainSystem) (b : Bool). IsOpening g.N.Scalar.arithmetic aim.width aim.lines c.args.flow.now start.lines b) c.args.near.now c.args.opens.now c.requires.opens in let there = c.loop-j-test.true in omega arith
+
+pub through_ways-requires-clause-opening : goal.through_ways-requires-clause-opening
+through_ways-requires-clause-opening g c =
+    let aim = c.args.aim.now.piece in
+    let from = c.index-near-j.result in
+    let width : from.width ≡ aim.width = all_at (λ (p : PlainSystem). p.width ≡ aim.width) c.args.near.now c.loop-j.j from c.index-near-j.is c.loop-j-test.true c.requires.near in
+    rw width
+    (with_get (λ (start : PlainSystem) (b : Bool). IsOpening g.N.Scalar.arithmetic aim.width aim.lines c.args.flow.now start.lines b) c.args.near.now c.args.opens.now c.loop-j.j from _ c.index-near-j.is c.loop-j-test.true c.requires.opens)
 
 pub returns-in_err-through_ways-clause-step : goal.returns-in_err-through_ways-clause-step
 returns-in_err-through_ways-clause-step g c = λ base s.

@@ -10,16 +10,16 @@ use Rattle.lhg_whole.specs.WholeArithmetic.{whole_arithmetic, whole_is_lawful}
 use Rattle.lhg_elim.specs.Alike.{AllAlike}
 use Rattle.lhg_elim.specs.Turned.{AllTurned}
 use Rattle.lhg_elim.proofs.WholeSteps.{alike-wide}
-use Rattle.lhg_prune.specs.Pruning.{IsPruning}
-use Rattle.lhg_prune.specs.PrunedAlike.{pruned_alike}
+use Rattle.lhg_prune.specs.Pruning.{IsLeft}
+use Rattle.lhg_prune.specs.PrunedAlike.{left_alike}
 use Rattle.lhg_prune.proofs.ProjectSteps.{same_value, value_has}
-use Rattle.lhg_prune.proofs.projecting.pruned.Goals as goal
+use Rattle.lhg_prune.proofs.projecting.by_whole.Goals as goal
 
-pub pruned_rows-requires-clause-wide : goal.pruned_rows-requires-clause-wide
-pruned_rows-requires-clause-wide g c =
+pub left_rows-requires-clause-wide : goal.left_rows-requires-clause-wide
+left_rows-requires-clause-wide g c =
     let s = c.args.sys.now in
     let wide = alike-wide g.N.Scalar.arithmetic s.width c.rows-lines.result.now c.in_ok-wholes.wholes.items c.in_ok-wholes.ensures (subst (AllWide s.width) (sym c.rows-lines.ensures.rows) c.rows-lines.ensures.trimmed.wide) in
-    subst (λ n. AllWide n c.deref.result.now) (sym c.vars-n.ensures) (subst (AllWide s.width) (sym c.deref.ensures.value) wide)
+    subst (λ n. AllWide n c.in_ok-wholes.wholes.items) (sym c.vars-n.ensures) wide
 
 pub make-requires : goal.make-requires
 make-requires g c =
@@ -30,10 +30,9 @@ make-requires g c =
     let kept = c.in_ok-kept.kept.items in
     let back = c.in_ok-back.back.items in
     let alike : AllAlike a s.lines wholes = subst (λ (rs : PlainPiece). AllAlike a rs wholes) c.rows-lines.ensures.rows c.in_ok-wholes.ensures in
-    let turned : AllTurned a kept back = subst (λ (rs : PlainPiece). AllTurned a rs back) c.deref-2.ensures.value c.in_ok-back.ensures in
-    let p : IsPruning whole_arithmetic s.width c.args.keep wholes kept =
-    subst (λ n. IsPruning whole_arithmetic n c.args.keep wholes kept) c.vars-n.ensures (subst (λ (rs : PlainPiece). IsPruning whole_arithmetic c.vars-n.result c.args.keep rs kept) c.deref.ensures.value c.in_ok-kept.ensures) in
-    (pruned_alike a whole_arithmetic s.width c.args.keep s.lines wholes kept back laws whole_is_lawful c.requires c.rows-lines.ensures.trimmed alike p turned).0
+    let turned : AllTurned a kept back = subst (λ (rs : PlainPiece). AllTurned a rs back) c.deref.ensures.value c.in_ok-back.ensures in
+    let p : IsLeft whole_arithmetic s.width c.args.keep wholes kept = subst (λ n. IsLeft whole_arithmetic n c.args.keep wholes kept) c.vars-n.ensures c.in_ok-kept.ensures in
+    (left_alike a whole_arithmetic s.width c.args.keep s.lines wholes kept back laws whole_is_lawful c.requires c.rows-lines.ensures.trimmed alike p turned).0
 
 pub returns-clause-value : goal.returns-clause-value
 returns-clause-value g c =
@@ -44,11 +43,10 @@ returns-clause-value g c =
     let kept = c.in_ok-kept.kept.items in
     let back = c.in_ok-back.back.items in
     let alike : AllAlike a s.lines wholes = subst (λ (rs : PlainPiece). AllAlike a rs wholes) c.rows-lines.ensures.rows c.in_ok-wholes.ensures in
-    let turned : AllTurned a kept back = subst (λ (rs : PlainPiece). AllTurned a rs back) c.deref-2.ensures.value c.in_ok-back.ensures in
-    let p : IsPruning whole_arithmetic s.width c.args.keep wholes kept =
-    subst (λ n. IsPruning whole_arithmetic n c.args.keep wholes kept) c.vars-n.ensures (subst (λ (rs : PlainPiece). IsPruning whole_arithmetic c.vars-n.result c.args.keep rs kept) c.deref.ensures.value c.in_ok-kept.ensures) in
+    let turned : AllTurned a kept back = subst (λ (rs : PlainPiece). AllTurned a rs back) c.deref.ensures.value c.in_ok-back.ensures in
+    let p : IsLeft whole_arithmetic s.width c.args.keep wholes kept = subst (λ n. IsLeft whole_arithmetic n c.args.keep wholes kept) c.vars-n.ensures c.in_ok-kept.ensures in
     same_value c.make.result (make a c.args.keep back) (option_map (λ p. p.lines)) (project a s.width c.args.keep s.lines).value c.make.ensures.calculus
-    (pruned_alike a whole_arithmetic s.width c.args.keep s.lines wholes kept back laws whole_is_lawful c.requires c.rows-lines.ensures.trimmed alike p turned).1
+    (left_alike a whole_arithmetic s.width c.args.keep s.lines wholes kept back laws whole_is_lawful c.requires c.rows-lines.ensures.trimmed alike p turned).1
 
 pub returns-clause-points : goal.returns-clause-points
 returns-clause-points g c =
@@ -60,9 +58,8 @@ returns-clause-points g c =
     let kept = c.in_ok-kept.kept.items in
     let back = c.in_ok-back.back.items in
     let alike : AllAlike a s.lines wholes = subst (λ (rs : PlainPiece). AllAlike a rs wholes) c.rows-lines.ensures.rows c.in_ok-wholes.ensures in
-    let turned : AllTurned a kept back = subst (λ (rs : PlainPiece). AllTurned a rs back) c.deref-2.ensures.value c.in_ok-back.ensures in
-    let p : IsPruning whole_arithmetic s.width keep wholes kept =
-    subst (λ n. IsPruning whole_arithmetic n keep wholes kept) c.vars-n.ensures (subst (λ (rs : PlainPiece). IsPruning whole_arithmetic c.vars-n.result keep rs kept) c.deref.ensures.value c.in_ok-kept.ensures) in
+    let turned : AllTurned a kept back = subst (λ (rs : PlainPiece). AllTurned a rs back) c.deref.ensures.value c.in_ok-back.ensures in
+    let p : IsLeft whole_arithmetic s.width keep wholes kept = subst (λ n. IsLeft whole_arithmetic n keep wholes kept) c.vars-n.ensures c.in_ok-kept.ensures in
     value_has c.make.result (make a keep back) (option_map (λ p. p.lines)) (project a s.width keep s.lines).value (IsProjection a keep (s.width - keep) s.lines) c.make.ensures.calculus
-    (pruned_alike a whole_arithmetic s.width keep s.lines wholes kept back laws whole_is_lawful c.requires c.rows-lines.ensures.trimmed alike p turned).1
+    (left_alike a whole_arithmetic s.width keep s.lines wholes kept back laws whole_is_lawful c.requires c.rows-lines.ensures.trimmed alike p turned).1
     (project-exact a s.width keep s.lines laws c.requires c.rows-lines.ensures.trimmed.wide)
