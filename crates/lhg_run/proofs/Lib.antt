@@ -2,7 +2,6 @@ pub mod Answering
 pub mod FlowSteps
 pub mod MoveSteps
 pub mod PickCall
-pub mod PickSteps
 pub mod RowSteps
 pub mod RunCall
 pub mod RunSteps

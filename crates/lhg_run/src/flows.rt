@@ -24,11 +24,11 @@ ghost use Rattle.lhg_run.specs.Seen.{IsWay, IsDone, IsTaken, MayTake, IsPicked, 
 
 use crate::copies::copy_point;
 use crate::doing::Done;
-use crate::picks::first_result;
 use crate::rows::run_rows;
 use crate::ways::{Stop, Way, follow};
 use lhg_ctl::Controller;
 use lhg_num::{Frac, Halt, Scalar};
+use lhg_pick::first_result;
 use lhg_plant::{Plant, Side, State, legal_flow};
 use lhg_play::{Step, cut};
 use lhg_row::Point;

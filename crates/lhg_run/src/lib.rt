@@ -5,7 +5,6 @@ mod copies;
 mod doing;
 mod flows;
 mod moves;
-mod picks;
 mod rows;
 mod running;
 mod runs;

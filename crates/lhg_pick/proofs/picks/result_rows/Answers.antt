@@ -2,8 +2,8 @@ use Rattle.std.proofs.Common.{◌≡◌, ◌++◌, ap, sym, ◌∙◌, subst}
 use Rattle.lhg_row.specs.Piece.{PlainPiece}
 use Rattle.lhg_row.specs.Width.{AllWide}
 use Rattle.lhg_plant.specs.Pick.{result_rows}
-use Rattle.lhg_run.proofs.PickSteps.{result_rows-wide}
-use Rattle.lhg_run.proofs.picks.result_rows.Goals as goal
+use Rattle.lhg_pick.proofs.PickSteps.{result_rows-wide}
+use Rattle.lhg_pick.proofs.picks.result_rows.Goals as goal
 
 pub returns-clause-wide : goal.returns-clause-wide
 returns-clause-wide c =

@@ -1,4 +1,4 @@
-// The result that the controller picks by a switch.
+// The result that is picked by a switch.
 ghost use Rattle.std.specs.Prelude.{◌≡◌, ◌+◌, length, option_map, IfOk, IfSome};
 ghost use Rattle.lhg_num.specs.Halting.{IsHaltedByWide, IsHaltedByRows};
 ghost use Rattle.lhg_row.specs.Width.{AllWide};
@@ -13,7 +13,7 @@ use std::alloc::Global;
 
 /// The sample of the results, from the point by a switch with these jump rows, in the first of the pieces that holds one.
 /// It halts for `Wide` and `Rows` only where the calculus of this call sets the mark, and for `Memory`.
-pub(crate) fn first_result(
+pub fn first_result(
     alloc: Global,
     vars: usize,
     point: &Point<Frac>,
@@ -35,8 +35,9 @@ pub(crate) fn first_result(
     Ok(None)
 }
 
-// The results in the piece, where there is one.
-fn results_in(
+/// The results in the piece, where there is one.
+/// It halts for `Wide` and `Rows` only where the calculus of this call sets the mark, and for `Memory`.
+pub fn results_in(
     alloc: Global,
     vars: usize,
     point: &Point<Frac>,
@@ -53,8 +54,9 @@ fn results_in(
     make(alloc, vars, rows)
 }
 
-// The rows that these results satisfy.
-fn result_rows(
+/// The rows that these results satisfy, over the variables of a point: the jump rows with the point put in, then those of the piece.
+/// It halts for `Wide` only where the calculus of this call sets the mark, and for `Memory`.
+pub fn result_rows(
     alloc: Global,
     vars: usize,
     point: &Point<Frac>,

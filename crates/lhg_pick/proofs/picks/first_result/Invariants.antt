@@ -2,7 +2,7 @@ use Rattle.std.proofs.Common.{drop}
 use Rattle.lhg_num.specs.Marked.{IsRest}
 use Rattle.lhg_union.specs.PolyLists.{lines_of, AllVars}
 use Rattle.lhg_plant.specs.Pick.{first_result}
-use Rattle.lhg_run.proofs.picks.first_result.Given as goal
+use Rattle.lhg_pick.proofs.picks.first_result.Given as goal
 
 abbrev pub invariant-loop-piece : goal.invariant-loop-piece
 invariant-loop-piece l = record {
