@@ -1,0 +1,15 @@
+use Rattle.std.proofs.Common.{◌≡◌, Some, refl}
+use Rattle.lhg_plant.specs.Views.{plain_plant, plain_state}
+use Rattle.lhg_loss.specs.Views.{plain_losses}
+use Rattle.lhg_spoil.specs.Fibres.{fibre}
+use Rattle.lhg_spoil.specs.Work.{IsFibreWork}
+use Rattle.lhg_spoil.proofs.Answering.{err-all}
+use Rattle.lhg_spoil.proofs.acts.fibre_there.Goals as goal
+
+pub returns-in_err-found : goal.returns-in_err-found
+returns-in_err-found c =
+    let a = plain_plant c.args.plant.now in
+    let L = plain_losses c.args.losses.now in
+    let s = plain_state c.args.state.now in
+    let e = c.args.switch in
+    err-all c.from_residual.result c.in_err-found.field-0.0 (λ at. (fibre a L c.args.j e s).value ≡ Some at) (fibre a L c.args.j e s) (λ o. o) (IsFibreWork a L c.args.j s) c.from_residual.ensures.1 c.in_err-found.ensures (e, refl)

@@ -1,0 +1,15 @@
+pub mod Exchange
+pub mod Exchanges
+pub mod Facing
+pub mod Fibres
+pub mod Known
+pub mod Laws
+pub mod Moves
+pub mod MovesText
+pub mod OpenViews
+pub mod Replies
+pub mod Standing
+pub mod Stops
+pub mod Telling
+pub mod Views
+pub mod Work
