@@ -1,4 +1,5 @@
 pub mod InitWholes
+pub mod MovesWholes
 pub mod PartRefusals
 pub mod Parts
 pub mod Readings

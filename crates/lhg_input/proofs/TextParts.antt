@@ -25,6 +25,8 @@ use Rattle.lhg_ctl.proofs.ControllerLawProofs.{controller_reading, controller_en
 use Rattle.lhg_ctl.proofs.ControllerMachine.{controllers}
 use Rattle.lhg_ctl.proofs.LogLawProofs.{log_reading, log_end}
 use Rattle.lhg_ctl.proofs.LogStart.{logs}
+use Rattle.lhg_spoil.specs.MovesText.{IsMoves, IsMovesText}
+use Rattle.lhg_spoil.proofs.MovesReading.{moves, moves_reading, moves_end}
 use Rattle.lhg_forward.specs.InitText.{IsInit, IsInitText}
 use Rattle.lhg_forward.proofs.InitReading.{inits, init_reading, init_end}
 use Rattle.lhg_input.specs.Then.{IsSome}
@@ -99,3 +101,12 @@ init_part a = later_part (IsInit a) (record { end = init_end a; one_value = (ini
 -- each plant has first states
 pub init_follows : (lines : List (List ℕ)) (a : PlainPlant) → IsPlantText lines a → CanStand (IsSome (IsInitText a)) []
 init_follows lines a h = some_text (IsInit a) (inits a).can_begin
+
+-- ---- moves
+
+pub moves_part : (a : PlainPlant) → IsLaterPart (IsMovesText a)
+moves_part a = later_part (IsMoves a) (record { end = moves_end a; one_value = (moves_reading a).one_value })
+
+-- each plant has moves
+pub moves_follow : (a : PlainPlant) → CanStand (IsSome (IsMovesText a)) []
+moves_follow a = some_text (IsMoves a) (moves a).can_begin

@@ -32,7 +32,7 @@ controller_input = both_parts IsPlantText IsControllerText plant_part controller
 log_input : IsPart IsLogInput
 log_input = both_parts IsControllerInput (λ both. IsLogText both.0) controller_input (λ both. log_part both.0)
 
-state_input : IsPart IsStateInput
+pub state_input : IsPart IsStateInput
 state_input = both_parts IsPlantText IsStateLines plant_part state_part
 
 -- a plant with a controller has a log
@@ -100,13 +100,16 @@ module _ (bytes : List ℕ) (first : Reading) (begins : first ≡ start bytes) w
     pub controller_refused_before_log : (stop : ReadStop) → HasCause (IsSomeControllerText a) s stop → HasBadLine (IsSome IsLogInput) bytes stop
     controller_refused_before_log stop h = before_log stop (controller_fault stop h)
 
+    pub state_fault : (stop : ReadStop) → HasCause (IsTextBy (IsSomeState a)) s stop → HasCause (IsSome IsStateInput) (start bytes) stop
+    state_fault stop h = second_refused IsPlantText IsStateLines plant_part state_part bytes s a plant_read stop (cause_of (IsStateText a) s stop h)
+
     pub state_refused : (stop : ReadStop) → HasCause (IsTextBy (IsSomeState a)) s stop → HasBadLine (IsSome IsStateInput) bytes stop
-    state_refused stop h = whole_refused (IsSome IsStateInput) bytes stop (second_refused IsPlantText IsStateLines plant_part state_part bytes s a plant_read stop (cause_of (IsStateText a) s stop h))
+    state_refused stop h = whole_refused (IsSome IsStateInput) bytes stop (state_fault stop h)
 
     -- ---- behind a state
 
     module _ (state : PlainState) (t : Reading) (q : ReadsText (λ tokens. IsStateText a tokens state) s t) where
-      state_read : Stands IsStateInput bytes t (a, state)
+      pub state_read : Stands IsStateInput bytes t (a, state)
       state_read = next_read IsPlantText IsStateText bytes s t a state plant_read q
 
       pub state_ends : IsAtEnd t → IsStateInput (lines_of bytes) (a, state)

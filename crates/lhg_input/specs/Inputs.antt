@@ -8,6 +8,8 @@ use Rattle.lhg_read.specs.StateText.{IsStateLines}
 use Rattle.lhg_ctl.specs.ControllerGrammar.{IsControllerText}
 use Rattle.lhg_ctl.specs.Draft.{PlainDraft}
 use Rattle.lhg_ctl.specs.LogText.{PlainLog, IsLogText}
+use Rattle.lhg_spoil.specs.Moves.{PlainCtlMove}
+use Rattle.lhg_spoil.specs.MovesText.{IsMovesText}
 use Rattle.lhg_forward.specs.InitText.{IsInitText}
 use Rattle.lhg_input.specs.Then.{IsThen}
 
@@ -26,3 +28,7 @@ IsStateInput lines input = IsThen IsPlantText IsStateLines lines input
 -- the text of a plant, then that of its first states
 abbrev pub IsInitInput : List (List ℕ) → PlainPlant × List (ℕ × PlainPiece) → Type 0
 IsInitInput lines input = IsThen IsPlantText IsInitText lines input
+
+-- the text of a plant, then that of a state of it, then that of a controller's moves against it
+abbrev pub IsSpoilInput : List (List ℕ) → (PlainPlant × PlainState) × List PlainCtlMove → Type 0
+IsSpoilInput lines input = IsThen IsStateInput (λ both. IsMovesText both.0) lines input

@@ -6,6 +6,7 @@ mod inits;
 pub mod laws;
 mod logs;
 mod plants;
+mod spoils;
 mod states;
 #[cfg(test)]
 mod tests;
@@ -14,4 +15,5 @@ pub use controllers::read_controller_input;
 pub use inits::{InitInput, read_init_input};
 pub use logs::{LogInput, read_log_input};
 pub use plants::read_plant_input;
+pub use spoils::{SpoilInput, read_spoil_input};
 pub use states::read_state_input;

@@ -1,5 +1,7 @@
 //! Whole inputs that are read, and inputs that are refused at their first bad line.
-use crate::{read_controller_input, read_log_input, read_plant_input, read_state_input};
+use crate::{
+    read_controller_input, read_log_input, read_plant_input, read_spoil_input, read_state_input,
+};
 use lhg_lex::{ReadStop, TEXT_LIMIT};
 use std::alloc::Global;
 use std::test::Fail;
@@ -11,6 +13,7 @@ enum Form {
     Controller,
     Log,
     State,
+    Moves,
 }
 
 // The line of a refusal; 0 where the input is read, and 1000 where it could not be tried.
@@ -33,11 +36,12 @@ fn stop_of(alloc: Global, form: Form, text: &[u8]) -> Stop {
         Form::Controller => stop_in(read_controller_input(alloc, text)),
         Form::Log => stop_in(read_log_input(alloc, text)),
         Form::State => stop_in(read_state_input(alloc, text)),
+        Form::Moves => stop_in(read_spoil_input(alloc, text)),
     }
 }
 
 // Good texts, a bad line in each part, parts that are missing or cut, and lines that are too many.
-const INPUTS: [(Form, &[u8], Stop); 21] = [
+const INPUTS: [(Form, &[u8], Stop); 25] = [
     (Form::Plant, b"lhg 1\nvars x\nloc a\nend\n\n # \n", 0),
     (Form::Plant, b"lhg 1\nvars x\nloc a\nsafe y < 1\nend\n", 4),
     (Form::Plant, b"lhg 1\nvars x\nloc a\nend\n\n?\n", 6),
@@ -119,6 +123,26 @@ const INPUTS: [(Form, &[u8], Stop); 21] = [
         6,
     ),
     (Form::State, b"lhg 1\nvars x\nloc a\nend", 5),
+    (
+        Form::Moves,
+        b"lhg 1\nvars x\nloc a\nswitch go ctl a a keep\nend\nstate a x = 0\n\nwait\nact 1 0 go\nend\n\n",
+        0,
+    ),
+    (
+        Form::Moves,
+        b"lhg 1\nvars x\nloc a\nswitch go ctl a a keep\nend\nstate b x = 0\nend\n",
+        6,
+    ),
+    (
+        Form::Moves,
+        b"lhg 1\nvars x\nloc a\nswitch go env a a keep\nend\nstate a x = 0\nact 1 0 go\nend\n",
+        7,
+    ),
+    (
+        Form::Moves,
+        b"lhg 1\nvars x\nloc a\nend\nstate a x = 0\n",
+        6,
+    ),
 ];
 
 #[test]

@@ -6,6 +6,8 @@ pub mod OneReading
 pub mod Placed
 pub mod PlantLines
 pub mod PlantReads
+pub mod RecordPlaces
 pub mod ReportTexts
 pub mod RowsBack
 pub mod SpacedWords
+pub mod SpoilParts

@@ -5,4 +5,5 @@ pub mod ReportConditions
 pub mod ReportLaws
 pub mod ReportText
 pub mod ShortPlant
+pub mod SpoilText
 pub mod TraceText

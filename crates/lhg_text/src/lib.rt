@@ -1,4 +1,4 @@
-//! Plants, reports, traces, explanations and forward sets as texts.
+//! Plants, reports, traces, explanations, forward sets and exchanges as texts.
 #![tactic(auto)]
 
 #[cfg(test)]
@@ -13,6 +13,10 @@ mod plants;
 mod report_tests;
 mod reports;
 #[cfg(test)]
+mod spoil_tests;
+mod spoils;
+mod telling;
+#[cfg(test)]
 mod tests;
 #[cfg(test)]
 mod trace_tests;
@@ -23,4 +27,6 @@ pub use escapes::print_escape;
 pub use forwards::print_forward;
 pub use plants::print_plant;
 pub use reports::print_report;
+pub use spoils::print_spoil;
+pub use telling::{tell_pieces, tell_places};
 pub use traces::print_trace;

@@ -59,8 +59,8 @@ fn push_steps(text: &mut Vec<u8>, plant: &Plant, steps: &[Step]) -> Result<(), A
     Ok(())
 }
 
-// The last line.
-fn push_last(text: &mut Vec<u8>, illegal: Option<u32>) -> Result<(), AllocError>
+/// The last line.
+pub(crate) fn push_last(text: &mut Vec<u8>, illegal: Option<u32>) -> Result<(), AllocError>
     ensures { OnOk result (text.new.items ≡ text.old.items ++ line (last_line illegal)) }
 {
     match illegal {

@@ -1,4 +1,5 @@
 use Rattle.lhg_input.proofs.InitWholes.{inits_one}
+use Rattle.lhg_input.proofs.MovesWholes.{spoils_one}
 use Rattle.lhg_input.proofs.Wholes.{controllers_one, logs_one, states_one}
 use Rattle.lhg_input.proofs.laws.law_inputs.Goals as goal
 
@@ -13,3 +14,6 @@ returns-clause-states c = states_one
 
 pub returns-clause-inits : goal.returns-clause-inits
 returns-clause-inits c = inits_one
+
+pub returns-clause-spoils : goal.returns-clause-spoils
+returns-clause-spoils c = spoils_one
