@@ -17,6 +17,7 @@ use Rattle.lhg_plant.specs.Region.{PlainRegion, PlainGuards, InRegion}
 use Rattle.lhg_plant.specs.Invariants.{pieces_at, invariants}
 use Rattle.lhg_plant.specs.OutCalculus.{out}
 use Rattle.lhg_plant.specs.BackCalculus.{back_by, guard_by, guards}
+use Rattle.lhg_plant.specs.Loss.{PlainLoss}
 use Rattle.lhg_plant.specs.Inside.{AllInside, IsRegionOver, IsRegionInside}
 use Rattle.lhg_plant.specs.SwitchFacts.{IsOutside, IsOutOf}
 use Rattle.lhg_plant.proofs.Options.{some_there}
@@ -136,13 +137,18 @@ pub solution_guards : (a : PlainPlant) (budget : ℕ) → HasGuards a (solution 
 unfolding solution
 solution_guards a budget = guards_within budget a 0 (stage a 0).value
 
+-- what the iteration gives can be checked
+solution_checkable : (a : PlainPlant) (budget rounds : ℕ) (region : PlainRegion) (g : PlainGuards) (losses : List PlainLoss) → IsProper a → IsRegion a region
+    → solution a budget ≡ solved rounds region g losses → IsCheckable a (record { region = region; guards = g })
+solution_checkable a budget rounds region g losses proper shape is =
+    let same : g ≡ (guards a region).value = subst (λ (s : PlainSolution). HasGuards a s) is (solution_guards a budget) in
+    subst (λ (w : PlainGuards). IsCheckable a (record { region = region; guards = w })) (sym same) (guards_checkable a proper region shape)
+
 pub solved_check_laws : (a : PlainPlant) → SolvedCheckLaws a
 solved_check_laws a = record {
   checkable = guards_checkable a;
+  of_solution = solution_checkable a;
   passes = λ budget rounds region g losses some proper within is unmarked.
       let solved_is = subst (λ (s : PlainSolution). IsSolvedWithin a budget s) is (solved_law a budget some proper within) in
-      let same : g ≡ (guards a region).value = subst (λ (s : PlainSolution). HasGuards a s) is (solution_guards a budget) in
-      let given : IsCheckable a (record { region = region; guards = g }) =
-      subst (λ (w : PlainGuards). IsCheckable a (record { region = region; guards = w })) (sym same) (guards_checkable a proper region solved_is.region_is) in
-      (checked_law a (record { region = region; guards = g }) proper given unmarked).at_valid.1 solved_is.solution.valid;
+      (checked_law a (record { region = region; guards = g }) proper (solution_checkable a budget rounds region g losses proper solved_is.region_is is) unmarked).at_valid.1 solved_is.solution.valid;
 }

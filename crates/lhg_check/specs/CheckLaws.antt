@@ -32,9 +32,12 @@ CheckLaw a = (c : PlainController) → IsProper a → IsCheckable a c
 abbrev pub CheckedLaw : PlainPlant → Type 0
 CheckedLaw a = (c : PlainController) → IsProper a → IsCheckable a c → (check a c).pieces ≡ false → IsExactVerdict a c (check a c).value
 
--- a region with the guards that the calculus gives it can be checked; and what the iteration gives within its limits is checked to be valid
+-- a region with the guards that the calculus gives it can be checked, and so can what the iteration gives; and what it gives within its limits is
+-- checked to be valid
 pub record SolvedCheckLaws (a : PlainPlant) : Type 0 where
   pub checkable : IsProper a → (region : PlainRegion) → IsRegion a region → IsCheckable a (record { region = region; guards = (guards a region).value })
+  pub of_solution : (budget rounds : ℕ) (region : PlainRegion) (g : PlainGuards) (losses : List PlainLoss) → IsProper a → IsRegion a region
+      → solution a budget ≡ solved rounds region g losses → IsCheckable a (record { region = region; guards = g })
   pub passes : (budget rounds : ℕ) (region : PlainRegion) (g : PlainGuards) (losses : List PlainLoss) → 0 < budget → IsProper a → IsWithinLists a budget
       → solution a budget ≡ solved rounds region g losses → (check a (record { region = region; guards = g })).pieces ≡ false
       → (check a (record { region = region; guards = g })).value ≡ valid

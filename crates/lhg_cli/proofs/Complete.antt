@@ -23,13 +23,14 @@ use Rattle.lhg_cli.specs.Migration.{IsMigrated}
 use Rattle.lhg_cli.specs.PlantAnswer.{IsOutcome, IsReport, IsStopped, IsSynthesis}
 use Rattle.lhg_cli.specs.ReachAnswer.{IsReached, IsExplorable, IsEndless}
 use Rattle.lhg_cli.specs.RunAnswer.{IsRan, IsRunnable, IsUnrunnable, IsSureRun}
+use Rattle.lhg_cli.specs.SpoilAnswer.{IsSpoilable, IsSureSpoil}
 use Rattle.lhg_cli.specs.StateAnswer.{IsExplainable, IsSureStatus}
 use Rattle.lhg_cli.specs.Settling.{IsWithin, IsSettled, IsUnsettled}
 use Rattle.lhg_cli.specs.Summary.{IsSummary}
 use Rattle.lhg_cli.specs.Verdict.{IsChecked, IsValidInput, IsInvalidInput}
-use Rattle.lhg_cli.specs.Words.{Asks, NeedsInput, AsksSynth, AsksExplain, AsksLazy, AsksReach, AsksGen, AskForInput, most_rounds}
+use Rattle.lhg_cli.specs.Words.{Asks, NeedsInput, AsksSynth, AsksExplain, AsksLazy, AsksSpoil, AsksReach, AsksGen, AskForInput, most_rounds}
 use Rattle.lhg_cli.specs.declared.request.Request.{Request}
-use Rattle.lhg_cli.specs.declared.request.Request.TheVariants.{Synth, Check, Run, Explain, Migrate, Lazy, Reach, Gen}
+use Rattle.lhg_cli.specs.declared.request.Request.TheVariants.{Synth, Check, Run, Explain, Migrate, Lazy, Spoil, Reach, Gen}
 use Rattle.lhg_cli.specs.declared.status.Status.{Status}
 use Rattle.lhg_cli.specs.declared.status.Status.TheVariants as status
 use Rattle.lhg_cli.proofs.AnswerSteps.{its_answer, its_bytes}
@@ -39,6 +40,7 @@ use Rattle.lhg_cli.proofs.LazyComplete.{lazy_done, lazy_spent}
 use Rattle.lhg_cli.proofs.ReachComplete.{reached_done, reached_spent}
 use Rattle.lhg_cli.proofs.RunAnswers.{sure_ran, not_ran}
 use Rattle.lhg_cli.proofs.SeekComplete.{sure_of}
+use Rattle.lhg_cli.proofs.SpoilComplete.{sure_spoil_of}
 use Rattle.lhg_cli.proofs.VerdictSteps.{valid_done, invalid_no}
 use Rattle.lhg_cli.proofs.WordSteps.{one_request}
 
@@ -191,6 +193,12 @@ module _ (words : List (List ℕ)) (P Q : Type 0) (s : Status) (text : List ℕ)
   lazy_used_up None h n asked = tt
   lazy_used_up (Some bytes) h n asked = λ t p q.
       let l = lazied bytes h n asked t.input in lazy_spent t.input.value n t.unsettled.removes s text l.1 (λ stop. unsettled_spent (λ told. ⊥) t.input.value n t.unsettled (λ told h. h) s text stop)
+
+  pub spoiled : (input : Option (List ℕ)) → IsAnswer words input s text → (n : ℕ) → AsksSpoil words n
+      → IfSome input (λ bytes. (t : IsSpoilable n bytes) → P → Q → IsSureSpoil n t.input.value s ⊎ (s ≡ status.Memory))
+  spoiled None h n asked = tt
+  spoiled (Some bytes) h n asked = λ t p q.
+      inl (sure_spoil_of n bytes t.input s text (to_bytes (Spoil n) tt bytes h asked) t.limits)
 
   -- a plant and first states, of which it is asked where they lead
   reached_by : (bytes : List ℕ) → IsAnswer words (Some bytes) s text → (n : ℕ) → AsksReach words n → (input : IsInput IsInitInput bytes) → IsReached n input.value s text

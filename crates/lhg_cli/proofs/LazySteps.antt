@@ -4,23 +4,14 @@ use Rattle.lhg_num.specs.Halting.{IsHaltedBy}
 use Rattle.lhg_num.specs.declared.refusals.Halt.{Halt}
 use Rattle.lhg_num.specs.declared.refusals.Halt.TheVariants.{Wide, Rows, Pieces, Memory}
 use Rattle.lhg_plant.specs.Controller.{PlainController, IsValid}
-use Rattle.lhg_plant.specs.Loss.{PlainLoss}
 use Rattle.lhg_plant.specs.Plant.{PlainPlant}
-use Rattle.lhg_plant.specs.Region.{PlainRegion, PlainGuards}
 use Rattle.lhg_plant.specs.Views.{plain_state}
-use Rattle.lhg_plant.specs.Proper.{IsProper}
-use Rattle.lhg_loss.specs.Iterate.{PlainSolution, solved, solution}
-use Rattle.lhg_loss.specs.RoundFacts.{IsRegion}
-use Rattle.lhg_plant.specs.BackCalculus.{guards}
 use Rattle.lhg_row_text.specs.PrintedLine.{line}
-use Rattle.lhg_ctl.specs.Conditions.{IsInsideInvariants}
 use Rattle.lhg_ctl.specs.ControllerText.{controller_text}
 use Rattle.lhg_check.specs.Check.{PlainVerdict, valid, unsafe, bad_guard, escapes}
-use Rattle.lhg_check.specs.CheckFacts.{IsCheckable}
 use Rattle.lhg_check.specs.Views.{plain_verdict}
 use Rattle.lhg_check.specs.declared.verdicts.Verdict.{Verdict}
 use Rattle.lhg_check.specs.declared.verdicts.Verdict.TheVariants as verdict
-use Rattle.lhg_check.proofs.CheckSolved.{HasGuards, solution_guards, guards_checkable}
 use Rattle.lhg_lazy.specs.Rim.{IsCandidate}
 use Rattle.lhg_lazy.proofs.CutStates.{candidate-laws}
 use Rattle.lhg_cli.specs.LazyAnswer.{candidate_of, trial_of, IsCutText, IsFullText, IsTried}
@@ -29,15 +20,6 @@ use Rattle.lhg_cli.specs.declared.solving.Answer.{Answer}
 use Rattle.lhg_cli.specs.declared.status.Status.{Status}
 use Rattle.lhg_cli.specs.declared.status.Status.TheVariants as status
 use Rattle.lhg_cli.proofs.InputSteps.{ok_with}
-
--- ---- what solves a game
--- its pieces lie inside the invariants
-pub solved_inside : (a : PlainPlant) (budget rounds : ℕ) (region : PlainRegion) (g : PlainGuards) (losses : List PlainLoss) → IsProper a → IsRegion a region → solution a budget ≡ solved rounds region g losses
-    → IsInsideInvariants a (record { region = region; guards = g })
-solved_inside a budget rounds region g losses proper shape is =
-    let same : g ≡ (guards a region).value = subst (λ (s : PlainSolution). HasGuards a s) is (solution_guards a budget) in
-    let given : IsCheckable a (record { region = region; guards = g }) = subst (λ (w : PlainGuards). IsCheckable a (record { region = region; guards = w })) (sym same) (guards_checkable a proper region shape) in
-    record { region = given.region_is.inside; guards = given.guards_inside }
 
 -- ---- the answer where a candidate is decided
 module _ (a : PlainPlant) (c d : PlainController) (made : d ≡ (candidate_of a c).value) (is : IsCandidate a c d) where

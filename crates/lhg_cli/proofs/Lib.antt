@@ -1,7 +1,7 @@
 pub mod AnswerSteps
 pub mod Complete
+pub mod ExplainerSteps
 pub mod GeneratedGame
-pub mod GuardSteps
 pub mod InputSteps
 pub mod LazyComplete
 pub mod LazyParts
@@ -15,6 +15,9 @@ pub mod ReachSteps
 pub mod ReadNever
 pub mod RunAnswers
 pub mod SeekComplete
+pub mod SpoilComplete
+pub mod SpoilPlaces
+pub mod SpoilStart
 pub mod StatePlaces
 pub mod TracePlaces
 pub mod VerdictSteps

@@ -96,7 +96,7 @@ few_in (Ok (spot ∷ spots)) (Some more) n tokens h e = let same : (spot ∷ spo
 few_in (Ok (spot ∷ spots)) None n tokens h e = absurd cc
 few_in (Err fault) o n tokens h e = absurd cc
 
-few_lines : (lines : List (List ℕ)) (tokens : List (List Spot)) → token_lines lines ≡ Some tokens → length tokens ≤ length lines
+pub few_lines : (lines : List (List ℕ)) (tokens : List (List Spot)) → token_lines lines ≡ Some tokens → length tokens ≤ length lines
 few_lines [] tokens e = let same : [] ≡ tokens = cc in let size = ap length (sym same) in omega (arith, size)
 few_lines (line ∷ lines) tokens e = few_in (tokens_of line) (token_lines lines) (length lines) tokens (few_lines lines) e
 

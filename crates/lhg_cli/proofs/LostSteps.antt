@@ -20,18 +20,19 @@ use Rattle.lhg_plant.specs.Explained.{IsLeft, IsExplained}
 use Rattle.lhg_play.specs.Views.{plain_last}
 use Rattle.lhg_explain.proofs.HeldRecords.{there_listed}
 use Rattle.lhg_text.specs.EscapeText.{plain_exit, IsFittingMove, IsPlacedExit}
-use Rattle.lhg_cli.proofs.Placed.{there, round_state, placed_state}
+use Rattle.lhg_text.proofs.RecordPlaces.{there}
+use Rattle.lhg_cli.proofs.Placed.{round_state, placed_state}
 
 -- ---- the record
 -- a record of the list with this number holds the state
-record IsHolder (z : PlainState) (losses : List PlainLoss) (m : ℕ) : Type 0 where
+pub record IsHolder (z : PlainState) (losses : List PlainLoss) (m : ℕ) : Type 0 where
   pub place : ℕ
   pub loss : PlainLoss
   pub is_there : slice_get losses place ≡ Some loss
   pub holds : HoldsState loss z
   pub number : loss.number ≡ m
 
-holder : (z : PlainState) (losses : List PlainLoss) (m : ℕ) → IsFirstHolding z losses (Some m) → IsHolder z losses m
+pub holder : (z : PlainState) (losses : List PlainLoss) (m : ℕ) → IsFirstHolding z losses (Some m) → IsHolder z losses m
 holder z [] m h = absurd cc
 holder z (r ∷ losses) m (inl h) = let e = h.1 in record { place = 0; loss = r; is_there = refl; holds = h.0; number = cc }
 holder z (r ∷ losses) m (inr h) =

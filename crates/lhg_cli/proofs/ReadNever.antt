@@ -3,7 +3,7 @@ use Rattle.std.proofs.Common.{◌≡◌, ◌⊎◌, inl, inr, List, ℕ, Option,
 use Rattle.lhg_plant.specs.Plant.{PlainPlant}
 use Rattle.lhg_plant.specs.State.{PlainState}
 use Rattle.lhg_read.specs.PlantText.{IsPlantText}
-use Rattle.lhg_input.specs.Inputs.{IsControllerInput, IsInitInput, IsLogInput, IsStateInput}
+use Rattle.lhg_input.specs.Inputs.{IsControllerInput, IsInitInput, IsLogInput, IsSpoilInput, IsStateInput}
 use Rattle.lhg_cli.specs.Answer.{IsAnswer, IsAnswerTo, AnswersBytes}
 use Rattle.lhg_cli.specs.InputAnswer.{IsBytesAnswer}
 use Rattle.lhg_cli.specs.LazyAnswer.{IsLazied, IsTriedText}
@@ -11,10 +11,11 @@ use Rattle.lhg_cli.specs.Migration.{IsMigrated}
 use Rattle.lhg_cli.specs.PlantAnswer.{IsStopText, IsSynthesis}
 use Rattle.lhg_cli.specs.ReachAnswer.{IsReached}
 use Rattle.lhg_cli.specs.RunAnswer.{IsRan}
+use Rattle.lhg_cli.specs.SpoilAnswer.{IsSpoilOutcome}
 use Rattle.lhg_cli.specs.StateAnswer.{IsStateAnswer}
 use Rattle.lhg_cli.specs.Verdict.{IsChecked}
 use Rattle.lhg_cli.specs.declared.request.Request.{Request}
-use Rattle.lhg_cli.specs.declared.request.Request.TheVariants.{Synth, Check, Run, Explain, Migrate, Lazy, Reach, Gen}
+use Rattle.lhg_cli.specs.declared.request.Request.TheVariants.{Synth, Check, Run, Explain, Migrate, Lazy, Spoil, Reach, Gen}
 use Rattle.lhg_cli.specs.declared.status.Status.{Status}
 use Rattle.lhg_cli.specs.declared.status.Status.TheVariants as status
 
@@ -46,6 +47,7 @@ to_bytes Run bytes text h = no_bytes IsLogInput (λ v. IsRan v status.Read text)
 to_bytes (Explain n) bytes text h = no_bytes IsStateInput (λ v. IsStateAnswer n v status.Read text) bytes text (λ v k. state_unread n v text k) h
 to_bytes Migrate bytes text h = no_bytes IsControllerInput (λ v. IsMigrated v status.Read text) bytes text (λ v k. read_not_done k.0) h
 to_bytes (Lazy n) bytes text h = no_bytes IsPlantText (λ v. IsLazied n v status.Read text) bytes text (λ v k. lazy_unread n v text k.1) h
+to_bytes (Spoil n) bytes text h = no_bytes IsSpoilInput (λ v. IsSpoilOutcome n v status.Read text) bytes text (λ v k. k) h
 to_bytes (Reach n) bytes text h = no_bytes IsInitInput (λ v. IsReached n v status.Read text) bytes text (λ v k. k) h
 to_bytes (Gen k) bytes text h = h
 

@@ -19,7 +19,8 @@ use Rattle.lhg_plant.proofs.Picks.{picks_legal}
 use Rattle.lhg_plant.proofs.RunInside.{flow_length, along_state}
 use Rattle.lhg_run.specs.Answers.{IsTraceBefore}
 use Rattle.lhg_text.specs.TraceText.{IsPlacedStep}
-use Rattle.lhg_cli.proofs.Placed.{there, placed_state}
+use Rattle.lhg_text.proofs.RecordPlaces.{there}
+use Rattle.lhg_cli.proofs.Placed.{placed_state}
 
 module _ (a : PlainPlant) (proper : IsProper a) (c : PlainController) (inside : IsRegionInside a c.region) where
   -- a flow as far as a place

@@ -12,12 +12,13 @@ use Rattle.lhg_ctl.specs.Draft.{PlainDraft}
 use Rattle.lhg_check.specs.Check.{PlainVerdict, valid, unsafe, bad_guard, escapes}
 use Rattle.lhg_check.specs.CheckFacts.{IsVerdict}
 use Rattle.lhg_check.specs.CheckLaws.{IsExactVerdict}
+use Rattle.lhg_text.proofs.RecordPlaces.{there}
 use Rattle.lhg_cli.specs.Verdict.{controller_in, check_of, KeepsWritten, verdict_text, status_of, IsPlacedVerdict, IsVerdictLine, IsCheckStop, IsChecked, IsWithinCheck, TellsHalt}
 use Rattle.lhg_cli.specs.declared.solving.Answer.{Answer}
 use Rattle.lhg_cli.specs.declared.status.Status.{Status}
 use Rattle.lhg_cli.specs.declared.status.Status.TheVariants as status
 use Rattle.lhg_cli.proofs.InputSteps.{ok_with}
-use Rattle.lhg_cli.proofs.Placed.{there, placed_state}
+use Rattle.lhg_cli.proofs.Placed.{placed_state}
 
 -- words and a text, put together in order
 pub put_together : (head name text : List ℕ) → line (((head ++ name) ++ 32 ∷ []) ++ text) ≡ line (head ++ (name ++ 32 ∷ text))

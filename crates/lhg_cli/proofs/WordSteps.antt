@@ -6,7 +6,7 @@ use Rattle.std.specs.Str.Parse.{digits_value, ParsesUnsigned}
 use Rattle.std.proofs.lemmas.Fmt.{decimal_is_IsNumeral, parse-decimal}
 use Rattle.lhg_cli.specs.Words.{Asks, AsksWithin, usual_budget, most_rounds}
 use Rattle.lhg_cli.specs.declared.request.Request.{Request}
-use Rattle.lhg_cli.specs.declared.request.Request.TheVariants.{Synth, Check, Run, Explain, Migrate, Lazy, Reach, Gen}
+use Rattle.lhg_cli.specs.declared.request.Request.TheVariants.{Synth, Check, Run, Explain, Migrate, Lazy, Spoil, Reach, Gen}
 
 -- the first word, where there is one
 abbrev first : List (List ℕ) → List ℕ
@@ -29,7 +29,8 @@ request_by word n =
     (cond (bytes_eq word (codes "explain")) (Explain n)
     (cond (bytes_eq word (codes "migrate")) Migrate
     (cond (bytes_eq word (codes "lazy")) (Lazy n)
-    (cond (bytes_eq word (codes "reach")) (Reach n) (Gen n)))))))
+    (cond (bytes_eq word (codes "spoil")) (Spoil n)
+    (cond (bytes_eq word (codes "reach")) (Reach n) (Gen n))))))))
 
 abbrev request_in : List (List ℕ) → Request
 request_in words = request_by (first words) (number_in words)
@@ -51,6 +52,7 @@ asked_is words Run h = sym (ap request_in h)
 asked_is words (Explain n) h = with_rounds words (codes "explain") Explain (λ ws. refl) n h
 asked_is words Migrate h = sym (ap request_in h)
 asked_is words (Lazy n) h = with_rounds words (codes "lazy") Lazy (λ ws. refl) n h
+asked_is words (Spoil n) h = with_rounds words (codes "spoil") Spoil (λ ws. refl) n h
 asked_is words (Reach n) h = with_rounds words (codes "reach") Reach (λ ws. refl) n h
 asked_is words (Gen k) h = let few = h.1.few in sym (ap request_in h.0 ∙ ap Gen (read_back k (omega (arith, few))))
 

@@ -4,7 +4,7 @@ use Rattle.std.specs.Io.KnownBytes.{IsAtEnd}
 use Rattle.lhg_lex.specs.Lines.{most_bytes}
 use Rattle.lhg_read.specs.PlantText.{IsPlantText}
 use Rattle.lhg_row_text.specs.PrintedLine.{line}
-use Rattle.lhg_input.specs.Inputs.{IsControllerInput, IsInitInput, IsLogInput, IsStateInput}
+use Rattle.lhg_input.specs.Inputs.{IsControllerInput, IsInitInput, IsLogInput, IsSpoilInput, IsStateInput}
 use Rattle.lhg_cli.specs.InputAnswer.{IsInput, IsBytesAnswer, HasAnswer}
 use Rattle.lhg_cli.specs.LazyAnswer.{IsLazied}
 use Rattle.lhg_cli.specs.Migration.{IsMigrated}
@@ -12,17 +12,18 @@ use Rattle.lhg_cli.specs.PlantAnswer.{IsSynthesis}
 use Rattle.lhg_cli.specs.ReachAnswer.{IsReached}
 use Rattle.lhg_cli.specs.RunAnswer.{IsRan}
 use Rattle.lhg_cli.specs.Settling.{IsSettled, IsUnsettled}
+use Rattle.lhg_cli.specs.SpoilAnswer.{IsSpoilOutcome}
 use Rattle.lhg_cli.specs.StateAnswer.{IsStateAnswer}
 use Rattle.lhg_cli.specs.Summary.{IsGenAnswer}
 use Rattle.lhg_cli.specs.Verdict.{IsChecked}
 use Rattle.lhg_cli.specs.Words.{Asks, AreKnown}
 use Rattle.lhg_cli.specs.declared.request.Request.{Request}
-use Rattle.lhg_cli.specs.declared.request.Request.TheVariants.{Synth, Check, Run, Explain, Migrate, Lazy, Reach, Gen}
+use Rattle.lhg_cli.specs.declared.request.Request.TheVariants.{Synth, Check, Run, Explain, Migrate, Lazy, Spoil, Reach, Gen}
 use Rattle.lhg_cli.specs.declared.status.Status.{Status}
 use Rattle.lhg_cli.specs.declared.status.Status.TheVariants as status
 
 abbrev pub usage_text : List ℕ
-usage_text = line (codes "usage: lhg synth [N] | check | run | explain [N] | gen K | migrate | lazy [N] | reach [N]")
+usage_text = line (codes "usage: lhg synth [N] | check | run | explain [N] | gen K | migrate | lazy [N] | spoil [N] | reach [N]")
 
 -- the text that stands for the status of what is asked for of the bytes of an input
 abbrev pub AnswersBytes : Request → List ℕ → Status → List ℕ → Type 0
@@ -32,6 +33,7 @@ AnswersBytes Run bytes s text = IsBytesAnswer IsLogInput IsRan bytes s text
 AnswersBytes (Explain n) bytes s text = IsBytesAnswer IsStateInput (IsStateAnswer n) bytes s text
 AnswersBytes Migrate bytes s text = IsBytesAnswer IsControllerInput IsMigrated bytes s text
 AnswersBytes (Lazy n) bytes s text = IsBytesAnswer IsPlantText (IsLazied n) bytes s text
+AnswersBytes (Spoil n) bytes s text = IsBytesAnswer IsSpoilInput (IsSpoilOutcome n) bytes s text
 AnswersBytes (Reach n) bytes s text = IsBytesAnswer IsInitInput (IsReached n) bytes s text
 AnswersBytes (Gen k) bytes s text = ⊥
 
@@ -71,6 +73,7 @@ IsTextFor Run bytes = IsInput IsLogInput bytes
 IsTextFor (Explain n) bytes = IsInput IsStateInput bytes
 IsTextFor Migrate bytes = IsInput IsControllerInput bytes
 IsTextFor (Lazy n) bytes = IsInput IsPlantText bytes
+IsTextFor (Spoil n) bytes = IsInput IsSpoilInput bytes
 IsTextFor (Reach n) bytes = IsInput IsInitInput bytes
 IsTextFor (Gen k) bytes = Unit {0}
 

@@ -1,5 +1,6 @@
 pub mod Answer
 pub mod InputAnswer
+pub mod Knowing
 pub mod LazyAnswer
 pub mod Migration
 pub mod Numbers
@@ -8,6 +9,7 @@ pub mod ReachAnswer
 pub mod Refusal
 pub mod RunAnswer
 pub mod Settling
+pub mod SpoilAnswer
 pub mod StateAnswer
 pub mod Summary
 pub mod Verdict

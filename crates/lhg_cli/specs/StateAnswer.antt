@@ -43,10 +43,13 @@ pub record IsLostText (a : PlainPlant) (budget : ℕ) (z : PlainState) (text : L
   pub explained : IsExplained a z (explanation a losses number z).value
   pub printed : text ≡ text_of a (explanation a losses number z).value
 
--- the point is not in the invariant, no safe line holds at the state, it is kept, or it is lost
+-- the point is not in the invariant, no safe line holds at the state, or it is kept
+abbrev pub IsNotLostText : PlainPlant → ℕ → PlainState → List ℕ → Type 0
+IsNotLostText a budget z text = ((text ≡ line (codes "outside")) × ¬ IsState a z) ⊎ (((text ≡ line (codes "unsafe")) × IsState a z × ¬ IsSafe a z) ⊎ IsKeptText a budget z text)
+
+-- one of these, or it is lost
 abbrev pub IsTold : PlainPlant → ℕ → PlainState → List ℕ → Type 0
-IsTold a budget z text =
-    ((text ≡ line (codes "outside")) × ¬ IsState a z) ⊎ (((text ≡ line (codes "unsafe")) × IsState a z × ¬ IsSafe a z) ⊎ (IsKeptText a budget z text ⊎ IsLostText a budget z text))
+IsTold a budget z text = IsNotLostText a budget z text ⊎ IsLostText a budget z text
 
 -- ---- what is not told
 -- a number is too wide in a row at the asked state
@@ -79,6 +82,19 @@ pub record IsStillInText (a : PlainPlant) (budget : ℕ) (z : PlainState) (text 
   pub kept : InRound a budget z
   pub printed : text ≡ line (codes "spent " ++ decimal budget) ++ line (codes "state " ++ state_text a state)
 
+-- why it is not told what becomes of the state, where no explanation is asked for yet
+abbrev pub IsUnsoughtText : ℕ → PlainPlant × PlainState → Status → List ℕ → Type 0
+IsUnsoughtText budget (a, z) status.Done text = ⊥
+IsUnsoughtText budget (a, z) status.No text = ⊥
+IsUnsoughtText budget (a, z) status.Words text = ⊥
+IsUnsoughtText budget (a, z) status.Text text = ⊥
+IsUnsoughtText budget (a, z) status.Wide text = IsWideStateText a budget z text ⊎ IsSeekLimit a budget z (codes "wide") (λ m. m.wide) text
+IsUnsoughtText budget (a, z) status.Lists text = IsSeekLimit a budget z (codes "rows") (λ m. m.rows) text ⊎ IsSeekLimit a budget z (codes "pieces") (λ m. m.pieces) text
+IsUnsoughtText budget (a, z) status.Spent text = IsStillInText a budget z text
+IsUnsoughtText budget (a, z) status.Read text = ⊥
+IsUnsoughtText budget (a, z) status.Write text = ⊥
+IsUnsoughtText budget (a, z) status.Memory text = ⊥
+
 -- ---- answers
 -- the text that stands for the status where an explanation of a state is asked for
 abbrev pub IsStateAnswer : ℕ → PlainPlant × PlainState → Status → List ℕ → Type 0
@@ -96,14 +112,18 @@ IsStateAnswer budget (a, z) status.Write text = ⊥
 IsStateAnswer budget (a, z) status.Memory text = ⊥
 
 -- ---- where an answer is sure
--- no number at the asked state is too wide; no limit is passed in the work of a round up to the one that decides, nor by an explanation
+-- no number at the asked state is too wide, and no limit is passed in the work of a round up to the one that decides
+pub record IsSoughtWithin (budget : ℕ) (a : PlainPlant) (z : PlainState) : Type 0 where
+  pub invariant : (state_truth frac_arithmetic a z).wide ≡ false
+  pub safe : (safe_truth frac_arithmetic a z).wide ≡ false
+  pub records : (i : ℕ) → 0 < i → i ≤ budget → IsUndecided a i z → (holding z (stage a i).value.last).wide ≡ false
+  pub numbers : (i : ℕ) → i ≤ budget → IsUndecided a i z → (seek_work a budget z i).wide ≡ false
+  pub rows : (i : ℕ) → i ≤ budget → IsUndecided a i z → (seek_work a budget z i).rows ≡ false
+  pub pieces : (i : ℕ) → i ≤ budget → IsUndecided a i z → (seek_work a budget z i).pieces ≡ false
+
+-- nor by an explanation
 pub record IsWithinSeek (budget : ℕ) (input : PlainPlant × PlainState) : Type 0 where
-  pub invariant : (state_truth frac_arithmetic input.0 input.1).wide ≡ false
-  pub safe : (safe_truth frac_arithmetic input.0 input.1).wide ≡ false
-  pub records : (i : ℕ) → 0 < i → i ≤ budget → IsUndecided input.0 i input.1 → (holding input.1 (stage input.0 i).value.last).wide ≡ false
-  pub numbers : (i : ℕ) → i ≤ budget → IsUndecided input.0 i input.1 → (seek_work input.0 budget input.1 i).wide ≡ false
-  pub rows : (i : ℕ) → i ≤ budget → IsUndecided input.0 i input.1 → (seek_work input.0 budget input.1 i).rows ≡ false
-  pub pieces : (i : ℕ) → i ≤ budget → IsUndecided input.0 i input.1 → (seek_work input.0 budget input.1 i).pieces ≡ false
+  pub sought : IsSoughtWithin budget input.0 input.1
   pub explained_numbers : (m : ℕ) (losses : List PlainLoss) → IsLost input.0 budget m losses input.1 → (explanation input.0 losses m input.1).wide ≡ false
   pub explained_rows : (m : ℕ) (losses : List PlainLoss) → IsLost input.0 budget m losses input.1 → (explanation input.0 losses m input.1).rows ≡ false
 

@@ -2,7 +2,7 @@
 use Rattle.std.specs.Prelude.{◌≡◌, ◌≤◌, ◌⊎◌, ℕ, List, [], ◌∷◌, codes, decimal}
 use Rattle.lhg_gen.specs.Sizes.{IsSize}
 use Rattle.lhg_cli.specs.declared.request.Request.{Request}
-use Rattle.lhg_cli.specs.declared.request.Request.TheVariants.{Synth, Check, Run, Explain, Migrate, Lazy, Reach, Gen}
+use Rattle.lhg_cli.specs.declared.request.Request.TheVariants.{Synth, Check, Run, Explain, Migrate, Lazy, Spoil, Reach, Gen}
 
 -- the number of rounds where the words name none, and the largest that they may name
 abbrev pub usual_budget : ℕ
@@ -27,6 +27,10 @@ AsksExplain words n = AsksWithin (codes "explain") words n
 abbrev pub AsksLazy : List (List ℕ) → ℕ → Type 0
 AsksLazy words n = AsksWithin (codes "lazy") words n
 
+-- how the plant wins from a state is asked for, within n rounds
+abbrev pub AsksSpoil : List (List ℕ) → ℕ → Type 0
+AsksSpoil words n = AsksWithin (codes "spoil") words n
+
 -- where a plant can get is asked for, within n rounds
 abbrev pub AsksReach : List (List ℕ) → ℕ → Type 0
 AsksReach words n = AsksWithin (codes "reach") words n
@@ -43,6 +47,7 @@ Asks words Run = words ≡ codes "run" ∷ []
 Asks words (Explain n) = AsksExplain words n
 Asks words Migrate = words ≡ codes "migrate" ∷ []
 Asks words (Lazy n) = AsksLazy words n
+Asks words (Spoil n) = AsksSpoil words n
 Asks words (Reach n) = AsksReach words n
 Asks words (Gen k) = AsksGen words k
 
@@ -64,5 +69,6 @@ abbrev pub HasRounds : Request → Type 0
 HasRounds (Synth n) = (1 ≤ n) × (n ≤ most_rounds)
 HasRounds (Explain n) = (1 ≤ n) × (n ≤ most_rounds)
 HasRounds (Lazy n) = (1 ≤ n) × (n ≤ most_rounds)
+HasRounds (Spoil n) = (1 ≤ n) × (n ≤ most_rounds)
 HasRounds (Reach n) = (1 ≤ n) × (n ≤ most_rounds)
 HasRounds r = Unit {0}

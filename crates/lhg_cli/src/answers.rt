@@ -22,7 +22,7 @@ pub fn usage(alloc: Global) -> Result<Vec<u8>, AllocError>
 {
     Vec::from_slice(
         alloc,
-        b"usage: lhg synth [N] | check | run | explain [N] | gen K | migrate | lazy [N] | reach [N]\n",
+        b"usage: lhg synth [N] | check | run | explain [N] | gen K | migrate | lazy [N] | spoil [N] | reach [N]\n",
     )
 }
 

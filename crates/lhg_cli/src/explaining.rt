@@ -9,7 +9,7 @@ ghost use Rattle.lhg_play.specs.Views.{plain_escape};
 ghost use Rattle.lhg_input.specs.Inputs.{IsStateInput};
 ghost use Rattle.lhg_plant.specs.Round.{IsRemovedIn};
 ghost use Rattle.lhg_cli.specs.InputAnswer.{IsInput, IsBytesAnswer};
-ghost use Rattle.lhg_cli.specs.StateAnswer.{text_of, IsStateAnswer, IsWithinSeek, IsSureStatus, IsToldExactly};
+ghost use Rattle.lhg_cli.specs.StateAnswer.{text_of, IsUnsoughtText, IsStateAnswer, IsWithinSeek, IsSureStatus, IsToldExactly};
 ghost use Rattle.lhg_cli.specs.Words.{most_rounds};
 
 use crate::Status;
@@ -42,8 +42,14 @@ fn printed(
     }
 }
 
-// The round in which the state was removed, by the first record that holds it.
-fn round_of(plant: &Plant, budget: u32, state: &State, number: u32, losses: &[Loss]) -> u32
+/// The round in which the state was removed, by the first record that holds it.
+pub(crate) fn round_of(
+    plant: &Plant,
+    budget: u32,
+    state: &State,
+    number: u32,
+    losses: &[Loss],
+) -> u32
     requires { IsLost (plain_plant plant.now) budget number (plain_losses losses.now) (plain_state state.now) }
     ensures { IsRemovedIn (plain_plant plant.now) result (plain_state state.now) }
 {
@@ -91,8 +97,8 @@ fn lost(
     }
 }
 
-// The answer where it is not told what becomes of the state.
-fn unsought(
+/// The answer where it is not told what becomes of the state.
+pub(crate) fn unsought(
     alloc: Global,
     plant: &Plant,
     budget: u32,
@@ -100,7 +106,7 @@ fn unsought(
     stop: &SeekStop,
 ) -> Result<Answer, AllocError>
     requires { IsSeekStopped (plain_plant plant.now) budget (plain_state state.now) stop.now }
-    ensures { IfOk result (λ a. IsStateAnswer budget (plain_plant plant.now, plain_state state.now) a.status a.text.items) }
+    ensures { IfOk result (λ a. IsUnsoughtText budget (plain_plant plant.now, plain_state state.now) a.status a.text.items) }
 {
     let _ = state;
     match stop {

@@ -1,4 +1,4 @@
-//! What becomes of states, where first ones lead, and runs over logs.
+//! What becomes of states, how the plant wins them, where first ones lead, and runs over logs.
 use crate::Status;
 use crate::plant_texts::{
     BEND, DEPENDENCE, EDGE, NO_END, ONE_FLOW, OPEN_EDGE, OPEN_EDGE_CONTROLLER, PICKED_RESULT,
@@ -7,8 +7,8 @@ use crate::plant_texts::{
 use crate::tests::run;
 use std::test::Fail;
 
-// What is asked of a plant and a state, or of a plant and its first states, with the answers.
-const STATES: [(&[&str], &[u8], &[u8], Status, &[u8]); 21] = [
+// What is asked of a plant and a state, of these and moves, or of a plant and its first states, with the answers.
+const STATES: [(&[&str], &[u8], &[u8], Status, &[u8]); 28] = [
     (
         &["explain"],
         DEPENDENCE,
@@ -92,6 +92,55 @@ const STATES: [(&[&str], &[u8], &[u8], Status, &[u8]); 21] = [
         b"state only x = 8\n",
         Status::Done,
         b"round 1\nflow 2 x = 10\nend\n",
+    ),
+    (
+        &["spoil"],
+        DEPENDENCE,
+        b"state cool x = 20\nact 1 1/2 on\nend\n",
+        Status::Done,
+        b"spoil 1\nstart cool x = 20\nround 2\nflow 1/2 x = 19\nact on\nland heat x = 19\nround 1\nflow 3/2 x = 22\nflow 9 x = 40\nunsafe heat x = 40\nend\n",
+    ),
+    (
+        &["spoil", "2"],
+        DEPENDENCE,
+        b"state cool x = 20\nend\n",
+        Status::Done,
+        b"spoil 1\nstart cool x = 20\nround 2\nflow 1 x = 18\nflow 9 x = 0\nunsafe cool x = 0\nend\n",
+    ),
+    (
+        &["spoil"],
+        DEPENDENCE,
+        b"state cool x = 20\nact 3 0 on\nend\n",
+        Status::No,
+        b"spoil 1\nstart cool x = 20\nround 2\nillegal 1\n",
+    ),
+    (
+        &["spoil"],
+        TIE_OPEN,
+        b"state run x = 3\nact 2 3/10 go\nend\n",
+        Status::Done,
+        b"spoil 1\nstart run x = 3\nround 1\nflow 2 x = 5\nflow 3/2 x = 13/2\nenv hit bad x = 13/2\nunsafe bad x = 13/2\nend\n",
+    ),
+    (
+        &["spoil"],
+        b"lhg 1\nvars x\nloc run\ninv 0 <= x <= 10\nflow x = 1\nsafe x < 8\nloc other\ninv 0 <= x <= 10\nflow x = 1\nsafe x <= 5\nswitch go pick run other keep\nend\n",
+        b"state run x = 3\nact 2 1/5 go x = 6\nend\n",
+        Status::Done,
+        b"spoil 1\nstart run x = 3\nround 2\nflow 2 x = 5\nflow 1 x = 6\nround 1\nact go\nland other x = 6\nunsafe other x = 6\nend\n",
+    ),
+    (
+        &["spoil"],
+        DEPENDENCE,
+        b"state cool x = 20\nact 1 1/2 on\nact 1 1/170141183460469231731687303715884105727 off\nend\n",
+        Status::Wide,
+        b"wide exchange 2\n",
+    ),
+    (
+        &["spoil"],
+        DEPENDENCE,
+        b"state cool x = 20\nact 0 0 on\nend\n",
+        Status::Text,
+        b"text line 15 NotHere\n",
     ),
     (
         &["reach", "5"],

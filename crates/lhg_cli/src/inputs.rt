@@ -14,6 +14,7 @@ use crate::reaching::reach_of;
 use crate::request::Request;
 use crate::running::ran;
 use crate::solving::Answer;
+use crate::spoiling::spoiled;
 use crate::synthesis::synth_of;
 use lhg_io::{INPUT_LIMIT, ReadAll, Source, read_all};
 use std::alloc::{AllocError, Global};
@@ -32,6 +33,7 @@ fn answer_of(alloc: Global, request: Request, bytes: &[u8]) -> Result<Answer, Al
         Request::Explain(rounds) => explained(alloc, rounds, bytes),
         Request::Migrate => migrated(alloc, bytes),
         Request::Lazy(rounds) => lazy_of(alloc, rounds, bytes),
+        Request::Spoil(rounds) => spoiled(alloc, rounds, bytes),
         Request::Reach(rounds) => reach_of(alloc, rounds, bytes),
         Request::Gen(_) => unreachable!(),
     }

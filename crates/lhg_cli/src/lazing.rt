@@ -20,6 +20,7 @@ use crate::answers::halted;
 use crate::judging::Judged;
 use crate::refusing::refused;
 use crate::solving::{Answer, stopped};
+use lhg_check::laws::law_solved_check;
 use lhg_check::{Verdict, check};
 use lhg_ctl::{Controller, push_controller};
 use lhg_input::read_plant_input;
@@ -51,6 +52,7 @@ fn lazied(alloc: Global, plant: &Plant, budget: u32) -> Result<Answer, AllocErro
 {
     match solve(alloc, plant, budget) {
         Ok(found) => {
+            law_solved_check();
             let controller = Controller {
                 region: found.region,
                 guards: found.guards,

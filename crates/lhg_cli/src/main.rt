@@ -5,6 +5,7 @@ mod answers;
 mod checking;
 #[cfg(test)]
 mod controller_tests;
+mod explainer;
 mod explaining;
 #[cfg(test)]
 mod game_tests;
@@ -23,10 +24,10 @@ mod region_tests;
 mod request;
 mod running;
 mod solving;
+mod spoiling;
 mod status;
 mod summing;
 mod synthesis;
-mod telling;
 #[cfg(test)]
 mod tests;
 mod top;

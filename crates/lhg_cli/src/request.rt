@@ -16,6 +16,8 @@ pub enum Request {
     /// A controller for the plant of the input that switches at the rim of its region alone, where such a one is valid, within so many
     /// rounds.
     Lazy(u32),
+    /// How the plant wins from the state of the input against the moves of the controller there, within so many rounds.
+    Spoil(u32),
     /// Where the plant of the input can get from its first states, within so many rounds.
     Reach(u32),
     /// A summary of the generated plant with so many locations.

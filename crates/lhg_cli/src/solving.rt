@@ -16,12 +16,12 @@ ghost use Rattle.lhg_cli.specs.Words.{most_rounds};
 
 use crate::Status;
 use crate::answers::{past_limit, spent};
-use crate::telling::tell_pieces;
+use lhg_check::laws::law_solved_check;
 use lhg_ctl::Controller;
 use lhg_iterate::{Stop, solve};
 use lhg_loss::Loss;
 use lhg_plant::Plant;
-use lhg_text::print_report;
+use lhg_text::{print_report, tell_places};
 use std::alloc::{AllocError, Global};
 
 /// A status and its text.
@@ -39,7 +39,8 @@ pub fn solved(alloc: Global, plant: &Plant, budget: u32) -> Result<Answer, Alloc
 {
     match solve(alloc, plant, budget) {
         Ok(found) => {
-            tell_pieces(&found.losses);
+            law_solved_check();
+            tell_places(plant, &found.losses);
             let controller = Controller {
                 region: found.region,
                 guards: found.guards,

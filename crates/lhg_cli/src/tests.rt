@@ -12,7 +12,7 @@ use std::alloc::{AllocError, Global};
 use std::test::Fail;
 
 const USAGE: &[u8] =
-    b"usage: lhg synth [N] | check | run | explain [N] | gen K | migrate | lazy [N] | reach [N]\n";
+    b"usage: lhg synth [N] | check | run | explain [N] | gen K | migrate | lazy [N] | spoil [N] | reach [N]\n";
 
 pub(crate) const SYNTH: &[&str] = &["synth"];
 
@@ -352,7 +352,7 @@ fn generated(rt: HostRuntime) -> Result<(), Fail> {
     Ok(())
 }
 
-const OTHER_WORDS: [&[&str]; 20] = [
+const OTHER_WORDS: [&[&str]; 22] = [
     &[],
     &["check", "1"],
     &["migrate", "2"],
@@ -372,6 +372,8 @@ const OTHER_WORDS: [&[&str]; 20] = [
     &["gen", "3", "4"],
     &["lazy", "0"],
     &["lazier"],
+    &["spoil", "0"],
+    &["spoils"],
     &["reach", "1001"],
 ];
 

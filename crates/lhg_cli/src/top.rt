@@ -8,9 +8,10 @@ ghost use Rattle.lhg_cli.specs.LazyAnswer.{IsLazySolvable};
 ghost use Rattle.lhg_cli.specs.ReachAnswer.{IsExplorable, IsEndless};
 ghost use Rattle.lhg_cli.specs.RunAnswer.{IsRunnable, IsUnrunnable, IsSureRun};
 ghost use Rattle.lhg_cli.specs.Settling.{IsWithin};
+ghost use Rattle.lhg_cli.specs.SpoilAnswer.{IsSpoilable, IsSureSpoil};
 ghost use Rattle.lhg_cli.specs.StateAnswer.{IsExplainable, IsSureStatus};
 ghost use Rattle.lhg_cli.specs.Verdict.{IsValidInput, IsInvalidInput};
-ghost use Rattle.lhg_cli.specs.Words.{Asks, AsksSynth, AsksExplain, AsksLazy, AsksReach, AsksGen, AreKnown, AskForInput, most_rounds};
+ghost use Rattle.lhg_cli.specs.Words.{Asks, AsksSynth, AsksExplain, AsksLazy, AsksSpoil, AsksReach, AsksGen, AreKnown, AskForInput, most_rounds};
 
 use crate::Status;
 use crate::answers::usage;
@@ -104,6 +105,9 @@ pub fn lhg<S: Source, K: Sink>(
         → ¬ Rose (S.faults source.old) (S.faults source.new) → ¬ Rose (K.faults sink.old) (K.faults sink.new) → (result ≡ Status.Done) ⊎ (result ≡ Status.Memory)) }
     ensures lazy_used_up { (n : ℕ) → AsksLazy (map (λ w. string_bytes w) words.now) n → IfSome (S.left source.old) (λ bytes. IsUsedUp bytes n
         → ¬ Rose (S.faults source.old) (S.faults source.new) → ¬ Rose (K.faults sink.old) (K.faults sink.new) → (result ≡ Status.Spent) ⊎ (result ≡ Status.Memory)) }
+    // where a state is lost, how the plant wins from there is told to the end of the exchanges, or to the first move that is not legal at its turn
+    ensures spoiled { (n : ℕ) → AsksSpoil (map (λ w. string_bytes w) words.now) n → IfSome (S.left source.old) (λ bytes. (t : IsSpoilable n bytes)
+        → ¬ Rose (S.faults source.old) (S.faults source.new) → ¬ Rose (K.faults sink.old) (K.faults sink.new) → IsSureSpoil n t.input.value result ⊎ (result ≡ Status.Memory)) }
     // where a plant can get from its first states is told, where some level within the budget adds nothing and the calculus stays within its limits;
     // there is a state of the last level, where each level within the budget adds a state
     ensures reach { (n : ℕ) → AsksReach (map (λ w. string_bytes w) words.now) n → IfSome (S.left source.old) (λ bytes. IsExplorable n bytes

@@ -41,6 +41,9 @@ fn with_number(word: &str, number: &str) -> Option<Request>
     } else if word == "lazy" {
         let rounds = number_up_to(MOST_ROUNDS, number)?;
         Some(Request::Lazy(rounds))
+    } else if word == "spoil" {
+        let rounds = number_up_to(MOST_ROUNDS, number)?;
+        Some(Request::Spoil(rounds))
     } else if word == "reach" {
         let rounds = number_up_to(MOST_ROUNDS, number)?;
         Some(Request::Reach(rounds))
@@ -69,6 +72,8 @@ fn alone(word: &str) -> Option<Request>
         Some(Request::Migrate)
     } else if word == "lazy" {
         Some(Request::Lazy(USUAL_BUDGET))
+    } else if word == "spoil" {
+        Some(Request::Spoil(USUAL_BUDGET))
     } else if word == "reach" {
         Some(Request::Reach(USUAL_BUDGET))
     } else {

@@ -8,8 +8,6 @@ use Rattle.lhg_cli.specs.LazyAnswer.{IsTried, IsTriedText}
 use Rattle.lhg_cli.specs.PlantAnswer.{IsStopText}
 use Rattle.lhg_cli.specs.declared.solving.Answer.{Answer}
 use Rattle.lhg_cli.proofs.AnswerSteps.{ok_by}
-use Rattle.lhg_cli.proofs.GuardSteps.{env_unguarded}
-use Rattle.lhg_cli.proofs.LazySteps.{solved_inside}
 use Rattle.lhg_cli.proofs.lazing.lazied.Goals as goal
 
 pub tried-requires-clause-controller : goal.tried-requires-clause-controller
@@ -22,7 +20,7 @@ tried-requires-clause-controller c =
       switches = e.guards_many ∙ sym (length-map p.switches.items plain_switch);
       region = e.vars;
       guards = e.guards_vars;
-      ctl = env_unguarded (plain_plant p) c.args.budget s.rounds (plain_region s.region.pieces.items) (plain_region s.guards.items) (plain_losses s.losses.items) e.solution;
+      ctl = ((c.law_solved_check.ensures (plain_plant p)).of_solution c.args.budget s.rounds (plain_region s.region.pieces.items) (plain_region s.guards.items) (plain_losses s.losses.items) p.proper e.solved.region_is e.solution).uncontrollable;
     }
 
 pub tried-requires-clause-inside : goal.tried-requires-clause-inside
@@ -30,7 +28,8 @@ tried-requires-clause-inside c =
     let s = c.in-Ok.found in
     let e = c.in-Ok.ensures in
     let p = c.args.plant.now in
-    solved_inside (plain_plant p) c.args.budget s.rounds (plain_region s.region.pieces.items) (plain_region s.guards.items) (plain_losses s.losses.items) p.proper e.solved.region_is e.solution
+    let given = (c.law_solved_check.ensures (plain_plant p)).of_solution c.args.budget s.rounds (plain_region s.region.pieces.items) (plain_region s.guards.items) (plain_losses s.losses.items) p.proper e.solved.region_is e.solution in
+    record { region = given.region_is.inside; guards = given.guards_inside }
 
 pub tried-requires-clause-valid : goal.tried-requires-clause-valid
 tried-requires-clause-valid c = c.in-Ok.ensures.solved.solution.valid

@@ -3,12 +3,13 @@ use Rattle.lhg_cli.specs.Answer.{IsSolvable, IsTextFor, IsUsedUp}
 use Rattle.lhg_cli.specs.LazyAnswer.{IsLazySolvable}
 use Rattle.lhg_cli.specs.ReachAnswer.{IsExplorable, IsEndless}
 use Rattle.lhg_cli.specs.RunAnswer.{IsRunnable, IsUnrunnable, IsSureRun}
+use Rattle.lhg_cli.specs.SpoilAnswer.{IsSpoilable, IsSureSpoil}
 use Rattle.lhg_cli.specs.StateAnswer.{IsExplainable, IsSureStatus}
 use Rattle.lhg_cli.specs.Verdict.{IsValidInput, IsInvalidInput}
 use Rattle.lhg_cli.specs.declared.status.Status.TheVariants as status
 use Rattle.lhg_cli.specs.declared.request.Request.TheVariants.{Migrate}
 use Rattle.lhg_cli.proofs.AnswerSteps.{faulted, faulted_for}
-use Rattle.lhg_cli.proofs.Complete.{complete, used_up, refused, valid, invalid, migrated, ran, unrun, explained, lazy, lazy_used_up, reach, reach_endless, generated}
+use Rattle.lhg_cli.proofs.Complete.{complete, used_up, refused, valid, invalid, migrated, ran, unrun, explained, lazy, lazy_used_up, spoiled, reach, reach_endless, generated}
 use Rattle.lhg_cli.proofs.ReadNever.{never_read}
 use Rattle.lhg_cli.proofs.top.lhg.Goals as goal
 
@@ -48,6 +49,9 @@ returns-in-Ok-write_all-clause-lazy g c = lazy _ _ _ _ _ _ c.in-Ok.ensures.ok
 pub returns-in-Ok-write_all-clause-lazy_used_up : goal.returns-in-Ok-write_all-clause-lazy_used_up
 returns-in-Ok-write_all-clause-lazy_used_up g c = lazy_used_up _ _ _ _ _ _ c.in-Ok.ensures.ok
 
+pub returns-in-Ok-write_all-clause-spoiled : goal.returns-in-Ok-write_all-clause-spoiled
+returns-in-Ok-write_all-clause-spoiled g c = spoiled _ _ _ _ _ _ c.in-Ok.ensures.ok
+
 pub returns-in-Ok-write_all-clause-reach : goal.returns-in-Ok-write_all-clause-reach
 returns-in-Ok-write_all-clause-reach g c = reach _ _ _ _ _ _ c.in-Ok.ensures.ok
 
@@ -84,6 +88,9 @@ returns-in-Ok-clause-unrun g c = λ asked. faulted _ _ IsUnrunnable _ c.in-Err-w
 
 pub returns-in-Ok-clause-explained : goal.returns-in-Ok-clause-explained
 returns-in-Ok-clause-explained g c = λ n asked. faulted_for _ (IsExplainable n) (λ bytes t. IsSureStatus n t.input.value status.Write ⊎ (status.Write ≡ status.Memory)) _ c.in-Err-write_all.ensures.fault
+
+pub returns-in-Ok-clause-spoiled : goal.returns-in-Ok-clause-spoiled
+returns-in-Ok-clause-spoiled g c = λ n asked. faulted_for _ (IsSpoilable n) (λ bytes t. IsSureSpoil n t.input.value status.Write ⊎ (status.Write ≡ status.Memory)) _ c.in-Err-write_all.ensures.fault
 
 pub returns-in-Ok-clause-generated : goal.returns-in-Ok-clause-generated
 returns-in-Ok-clause-generated g c = λ k asked within calm. absurd (calm c.in-Err-write_all.ensures.fault)
