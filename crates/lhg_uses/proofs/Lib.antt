@@ -1,0 +1,2 @@
+pub mod AdviceSteps
+pub mod ReportSteps

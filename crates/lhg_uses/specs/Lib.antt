@@ -1,0 +1,4 @@
+pub mod Advice
+pub mod Allowed
+pub mod Judgement
+pub mod Report
